@@ -1,0 +1,7 @@
+-- The words of document 01 for bytes: classes, words, shapes, numbers.
+pub mod Ascii
+pub mod Class
+pub mod Word
+pub mod Shape
+pub mod Number
+pub mod FirstFrom

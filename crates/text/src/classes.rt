@@ -1,0 +1,71 @@
+// Classes of bytes, and runs of one class.
+ghost use mathlib.Core.Path.{_≡_};
+ghost use Rattle.text.specs.Class.{inClass, allOf, runOf};
+
+// The classes that document 01 names for the bytes of a cell.
+pub enum Class {
+    // 0-9
+    Digit,
+    // A-Z
+    Capital,
+    // A-Z 0-9
+    CapitalDigit,
+    // a-z A-Z 0-9
+    Alphanumeric,
+    // space to ~
+    Printable,
+    // A-Z #
+    CapitalHash,
+    // A-Z 0-9 -
+    CapitalDigitMinus,
+    // A-Z 0-9 + -
+    CapitalDigitSign,
+}
+
+fn is_digit(b: u8) -> bool
+    ensures { λ r. ⌜ r ≡ inClass Class.Digit b ⌝ }
+{
+    (b'0' <= b) & (b <= b'9')
+}
+
+fn is_capital(b: u8) -> bool
+    ensures { λ r. ⌜ r ≡ inClass Class.Capital b ⌝ }
+{
+    (b'A' <= b) & (b <= b'Z')
+}
+
+pub fn is_in(b: u8, class: Class) -> bool
+    ensures { λ r. ⌜ r ≡ inClass class b ⌝ }
+{
+    match class {
+        Class::Digit => is_digit(b),
+        Class::Capital => is_capital(b),
+        Class::CapitalDigit => is_capital(b) | is_digit(b),
+        Class::Alphanumeric => is_capital(b) | is_digit(b) | ((b'a' <= b) & (b <= b'z')),
+        Class::Printable => (b' ' <= b) & (b <= b'~'),
+        Class::CapitalHash => is_capital(b) | (b == b'#'),
+        Class::CapitalDigitMinus => is_capital(b) | is_digit(b) | (b == b'-'),
+        Class::CapitalDigitSign => is_capital(b) | is_digit(b) | (b == b'-') | (b == b'+'),
+    }
+}
+
+pub fn all_of(s: &[u8], class: Class) -> bool
+    ensures { λ r. ⌜ r ≡ allOf class (now (s .entry)) ⌝ }
+{
+    let mut i = 0;
+    while i < s.len() {
+        if !is_in(s[i], class) {
+            return false;
+        }
+        i += 1;
+    }
+    true
+}
+
+// From `least` to `most` bytes, all of one class.
+pub fn run_of(s: &[u8], class: Class, least: usize, most: usize) -> bool
+    ensures { λ r. ⌜ r ≡ runOf class least most (now (s .entry)) ⌝ }
+{
+    let n = s.len();
+    (least <= n) & (n <= most) & all_of(s, class)
+}
