@@ -1,0 +1,58 @@
+use Rattle.cells.proofs.split.Statement.{statement}
+use Rattle.cells.proofs.split.Tie as tie
+use mathlib.Core.Path.{_≡_, _∙_}
+use mathlib.Core.Logic.{⊎-elim}
+use Prim.Native.Nat.{_-_, _<_}
+use lib.ListN.{length}
+use Rattle.cells.proofs.Filling.{Filled, filled-none, filled-bar, filled-other, filled-over, filled-short, filled-whole}
+use borrow.Author.Needs.{needs}
+use native.Mathlib.Omega.{arith}
+
+abbrev Inv-loop : tie.InvT-loop
+Inv-loop line table₀ bars₀ i₀ table bars i = Filled line (table .starts) (table .ends) bars i
+
+abbrev μ-loop : tie.MeasureT-loop
+μ-loop line table₀ bars₀ i₀ table bars i = length line - i
+
+loop-holds : tie.Need-loop-holds Inv-loop μ-loop
+loop-holds c = rw (c .not-split .ensures) (filled-none (c .before .before .args .line .now))
+
+returns : tie.Need-returns Inv-loop μ-loop
+returns c = c .not-split2 .ensures ∙ filled-over (c .before .before .before .before .before .loop .inv) (omega arith) (c .before .if2 .taken) (c .before .before .if1 .taken)
+
+loop-again : tie.Need-loop-again Inv-loop μ-loop
+loop-again c = ⊎-elim
+    (λ w. rw (w .2, w .3) (filled-bar (c .before .before .before .loop .inv) (omega arith) (omega (arith, w .1 .left)) (w .0 .taken)))
+    (λ w. rw (w .1, w .2) (filled-other (c .before .before .before .loop .inv) (omega arith) (w .0 .left)))
+    (c .if1 .came)
+
+returns-2 : tie.Need-returns-2 Inv-loop μ-loop
+returns-2 c = c .not-split3 .ensures ∙ filled-short (c .before .before .before .loop .inv) (omega arith) (c .before .if3 .taken)
+
+returns-3 : tie.Need-returns-3 Inv-loop μ-loop
+returns-3 c = filled-whole (c .before .before .loop .inv) (omega arith) (c .if3 .left)
+
+pub split-spec : {M : Type 1} → statement M
+split-spec =
+    tie.close
+    (tie.spec
+    Inv-loop
+    μ-loop
+    (λ c κs. search needs)
+    loop-holds
+    (λ c. omega arith)
+    (λ c κs. search needs)
+    returns
+    (λ c. omega arith)
+    (λ c. omega arith)
+    (λ c. omega arith)
+    (λ c. omega arith)
+    (λ c. omega arith)
+    (λ c. omega arith)
+    (λ c. omega arith)
+    (λ c. omega arith)
+    loop-again
+    (λ c κs. search needs)
+    returns-2
+    (λ c. omega arith)
+    returns-3)

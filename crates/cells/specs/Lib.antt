@@ -1,0 +1,3 @@
+-- The cells of a line, and the places where they stand.
+pub mod Cells
+pub mod Split
