@@ -45,15 +45,15 @@ pub fn one_of(s: &[u8], words: &[u8], width: usize) -> bool
     false
 }
 
-// A letter of a pattern: d a digit, u a capital, n a capital or digit, h a capital or #. A byte that is no
-// small letter stands for itself.
+// A letter of a pattern: d a digit, u or * a capital, n a capital or digit, h a capital or #. Another byte that is
+// no small letter stands for itself.
 fn fits_letter(b: u8, letter: u8) -> bool
     ensures { λ r. ⌜ r ≡ suits letter b ⌝ }
 {
     if letter == b'd' {
         return is_in(b, Class::Digit);
     }
-    if letter == b'u' {
+    if (letter == b'u') | (letter == b'*') {
         return is_in(b, Class::Capital);
     }
     if letter == b'n' {
