@@ -1,0 +1,5 @@
+-- The laws of decimals, and what their specification comes to.
+pub mod DecimalLaws
+pub mod SignLaws
+pub mod Shape
+mod Unique

@@ -1,0 +1,46 @@
+-- The number of a decimal as a signed one, and its negation: exact, since 10 ^ 18 is below 2 ^ 63.
+use mathlib.Core.Path.{_≡_, refl}
+use mathlib.Core.List.{List}
+use Prim.Native.Nat.{ℕ, zero, suc, _^_, _≤_, _<_}
+use native.Mathlib.Omega.{arith}
+use lib.Dec.{lit<}
+use lib.IntN.{pos, negℤ, _-ℤ_, +ℤ-idl}
+use lib.ListN.{length, length-append}
+use mir.Syntax.{w8, w64}
+use mir.Val.{Fits, SFits, toZ, ofZ}
+use mir.Facts.{toZ-ofZ, toZ-pos}
+use Rattle.text.specs.Number.{numberOf}
+use Rattle.amount.specs.declared.Decimal.{Decimal}
+use Rattle.amount.specs.Decimal.{whole, decimals, digitsOf, valueOf}
+use Rattle.amount.proofs.DecimalLaws.{number-below}
+
+module _ (s : List ℕ) where
+  pub number-fits : {n : ℕ} → n ≡ numberOf (digitsOf s) → SFits w64 (pos n)
+  number-fits e = rw e (record { sfits = omega (arith, number-below (digitsOf s)) })
+
+  pub places-fit : {t : List ℕ} → t ≡ decimals s → length (digitsOf s) ≤ 18 → Fits w8 (length t)
+  unfolding digitsOf
+  places-fit e h = rw e (record { fits = omega (arith, length-append (whole s) (decimals s)) })
+
+  pub value-is : {n : ℕ} {t : List ℕ} → n ≡ numberOf (digitsOf s) → t ≡ decimals s → record { mantissa = toZ w64 n; places = length t } ≡ valueOf s
+  unfolding valueOf
+  value-is e f = rw (e, f) (λ i. record { mantissa = toZ-pos w64 (number-fits refl .sfits) i; places = length (decimals s) })
+
+  module _ {d : Decimal} (is : d ≡ valueOf s) where
+    mantissa-fits : SFits w64 (d .mantissa)
+    unfolding valueOf
+    mantissa-fits = rw is (number-fits refl)
+
+    minus-fits : SFits w64 (negℤ (d .mantissa))
+    unfolding valueOf
+    minus-fits = rw is (go (numberOf (digitsOf s)) (number-below (digitsOf s)))
+      where
+        go : (n : ℕ) → n < 10 ^ 18 → SFits w64 (negℤ (pos n))
+        go zero h = record { sfits = lit< tt }
+        go (suc n) h = record { sfits = omega arith }
+
+    pub negation-fits : SFits w64 (pos 0 -ℤ toZ w64 (ofZ w64 (d .mantissa)))
+    negation-fits = rw (toZ-ofZ mantissa-fits, +ℤ-idl) minus-fits
+
+    pub negation-is : toZ w64 (ofZ w64 (pos 0 -ℤ toZ w64 (ofZ w64 (d .mantissa)))) ≡ negℤ (d .mantissa)
+    negation-is = rw (toZ-ofZ mantissa-fits, +ℤ-idl) (toZ-ofZ minus-fits)

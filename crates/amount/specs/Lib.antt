@@ -1,0 +1,5 @@
+-- The words of document 01 for amounts: the decimal form, its sign, prices, quantities.
+pub mod Decimal
+pub mod Signed
+pub mod Price
+pub mod Quantity

@@ -1,0 +1,23 @@
+-- An amount that may open with one + or -, which is not counted.
+use Prim.Native.Nat.{ℕ}
+use lib.IntN.{negℤ}
+use mathlib.Core.Bool.{Bool, cond, _||_}
+use mathlib.Core.List.{List}
+use lib.ListN.{drop}
+use Rattle.text.specs.Ascii.{ascii}
+use Rattle.text.specs.Word.{startsWith}
+use Rattle.amount.specs.declared.Decimal.{Decimal}
+use Rattle.amount.specs.Decimal.{isDecimal, valueOf}
+
+unfoldable pub behindSign : List ℕ → List ℕ
+behindSign s = cond (startsWith (ascii "+") s || startsWith (ascii "-") s) (drop 1 s) s
+
+unfoldable pub isSigned : ℕ → ℕ → ℕ → List ℕ → Bool
+isSigned n f m s = isDecimal n f m (behindSign s)
+
+-- below zero for a minus; -0 is 0
+abbrev pub negated : Decimal → Decimal
+negated d = record { mantissa = negℤ (d .mantissa); places = d .places }
+
+unfoldable pub signedValueOf : List ℕ → Decimal
+signedValueOf s = cond (startsWith (ascii "-") s) (negated (valueOf (behindSign s))) (valueOf (behindSign s))

@@ -1,0 +1,208 @@
+// Amounts: the decimal form D(n, f, m) of document 01, and the prices and quantities that are written with it.
+//
+// A decimal is read to a whole number and the number of its decimal places: no digit that was written is lost.
+ghost use mathlib.Core.Path.{_≡_};
+ghost use Prim.Native.Nat.{_≤_};
+ghost use lib.ListN.{length};
+ghost use Rattle.text.specs.Number.{numberOf};
+ghost use Rattle.amount.specs.Decimal.{pointAt, whole, decimals, digitsOf, isDecimal, valueOf, tagged};
+ghost use Rattle.amount.specs.Signed.{behindSign, isSigned, signedValueOf};
+ghost use Rattle.amount.specs.Price.{priceOf, priceKind};
+ghost use Rattle.amount.specs.Quantity.{quantityOf, quantityKind};
+use text::Class;
+
+// The mantissa with its point moved left by the places: 1.50 is 150 with 2 places.
+pub struct Decimal {
+    pub mantissa: i64,
+    pub places: u8,
+}
+
+pub enum Price {
+    // PNDG
+    Pending,
+    // NOAP
+    NotApplicable,
+    // PC:
+    Percent(Decimal),
+    // MV:
+    Money(Decimal),
+    // YLD:
+    Yield(Decimal),
+    // BP:
+    BasisPoints(Decimal),
+    Malformed,
+}
+
+pub enum Quantity {
+    // UNT:
+    Units(Decimal),
+    // NOM:
+    Nominal(Decimal),
+    // MON:
+    Monetary(Decimal),
+    Malformed,
+}
+
+// The place of the first point, or the length where there is none.
+fn point_at(s: &[u8]) -> usize
+    ensures { λ r. ⌜ r ≡ pointAt (now (s .entry)) ⌝ }
+{
+    let mut i = 0;
+    while i < s.len() {
+        if s[i] == b'.' {
+            return i;
+        }
+        i += 1;
+    }
+    i
+}
+
+// What stands before the point, and what behind it.
+fn whole(s: &[u8]) -> &[u8]
+    ensures { λ r. ⌜ now r ≡ whole (now (s .entry)) ⌝ }
+{
+    text::head(s, point_at(s))
+}
+
+fn decimals(s: &[u8]) -> &[u8]
+    ensures { λ r. ⌜ now r ≡ decimals (now (s .entry)) ⌝ }
+{
+    text::rest(s, point_at(s) + 1)
+}
+
+// D(n, f, m).
+pub fn is_decimal(s: &[u8], n: usize, f: usize, m: usize) -> bool
+    ensures { λ r. ⌜ r ≡ isDecimal n f m (now (s .entry)) ⌝ }
+{
+    let w = whole(s);
+    let d = decimals(s);
+    text::run_of(w, Class::Digit, 1, n)
+        & ((w.len() == s.len()) | ((s.len() <= m) & text::run_of(d, Class::Digit, 0, f)))
+}
+
+// The number that the digits write, the point passed over.
+fn number_of(s: &[u8]) -> u64
+    ensures { λ r. ⌜ r ≡ numberOf (digitsOf (now (s .entry))) ⌝ }
+{
+    text::joined_number(whole(s), decimals(s))
+}
+
+// At the document's widths there are never more than 18 digits: with a point among them, 19 bytes hold no more.
+fn value_of(s: &[u8]) -> Decimal
+    requires { ⌜ length (digitsOf (now s)) ≤ 18 ⌝ }
+    ensures { λ r. ⌜ r ≡ valueOf (now (s .entry)) ⌝ }
+{
+    Decimal {
+        mantissa: number_of(s) as i64,
+        places: decimals(s).len() as u8,
+    }
+}
+
+// What follows the one + or - that an amount may open with.
+fn behind_sign(s: &[u8]) -> &[u8]
+    ensures { λ r. ⌜ now r ≡ behindSign (now (s .entry)) ⌝ }
+{
+    if text::starts_with(s, b"+") | text::starts_with(s, b"-") {
+        return text::rest(s, 1);
+    }
+    s
+}
+
+// D(n, f, m) behind a sign, which is not counted.
+pub fn is_signed_decimal(s: &[u8], n: usize, f: usize, m: usize) -> bool
+    ensures { λ r. ⌜ r ≡ isSigned n f m (now (s .entry)) ⌝ }
+{
+    is_decimal(behind_sign(s), n, f, m)
+}
+
+// Below zero for a minus. Behind it there are at most 18 digits, so the negation is exact at both ends, and -0 is 0.
+fn signed_value_of(s: &[u8]) -> Decimal
+    requires { ⌜ length (digitsOf (behindSign (now s))) ≤ 18 ⌝ }
+    ensures { λ r. ⌜ r ≡ signedValueOf (now (s .entry)) ⌝ }
+{
+    let d = value_of(behind_sign(s));
+    if text::starts_with(s, b"-") {
+        return Decimal {
+            mantissa: -d.mantissa,
+            places: d.places,
+        };
+    }
+    d
+}
+
+// A kind's word with its colon, and a decimal behind it.
+fn tagged(s: &[u8], word: &[u8], n: usize, f: usize, m: usize) -> bool
+    ensures { λ r. ⌜ r ≡ tagged (now (word .entry)) n f m (now (s .entry)) ⌝ }
+{
+    if !text::starts_with(s, word) {
+        return false;
+    }
+    is_decimal(text::rest(s, word.len()), n, f, m)
+}
+
+// Cells 33 and 51.
+pub fn parse_price(s: &[u8]) -> Price
+    ensures { λ r. ⌜ r ≡ priceOf (now (s .entry)) ⌝ }
+{
+    if text::same(s, b"PNDG") {
+        return Price::Pending;
+    }
+    if text::same(s, b"NOAP") {
+        return Price::NotApplicable;
+    }
+    if tagged(s, b"PC:", 11, 10, 19) {
+        return Price::Percent(value_of(text::rest(s, 3)));
+    }
+    if text::starts_with(s, b"MV:") & is_signed_decimal(text::rest(s, 3), 18, 13, 19) {
+        return Price::Money(signed_value_of(text::rest(s, 3)));
+    }
+    if tagged(s, b"YLD:", 11, 10, 12) {
+        return Price::Yield(value_of(text::rest(s, 4)));
+    }
+    if tagged(s, b"BP:", 18, 17, 19) {
+        return Price::BasisPoints(value_of(text::rest(s, 3)));
+    }
+    Price::Malformed
+}
+
+// Cell 30.
+pub fn parse_quantity(s: &[u8]) -> Quantity
+    ensures { λ r. ⌜ r ≡ quantityOf (now (s .entry)) ⌝ }
+{
+    if tagged(s, b"UNT:", 18, 17, 19) & (number_of(text::rest(s, 4)) != 0) {
+        return Quantity::Units(value_of(text::rest(s, 4)));
+    }
+    if tagged(s, b"NOM:", 18, 5, 19) {
+        return Quantity::Nominal(value_of(text::rest(s, 4)));
+    }
+    if tagged(s, b"MON:", 18, 5, 19) {
+        return Quantity::Monetary(value_of(text::rest(s, 4)));
+    }
+    Quantity::Malformed
+}
+
+// The kind of a price and of a quantity, numbered from 2 on as document 01 lists them; 0 where it is malformed.
+pub fn price_kind(price: Price) -> u8
+    ensures { λ r. ⌜ r ≡ priceKind price ⌝ }
+{
+    match price {
+        Price::Pending => 2,
+        Price::NotApplicable => 3,
+        Price::Percent(_) => 4,
+        Price::Money(_) => 5,
+        Price::Yield(_) => 6,
+        Price::BasisPoints(_) => 7,
+        Price::Malformed => 0,
+    }
+}
+
+pub fn quantity_kind(quantity: Quantity) -> u8
+    ensures { λ r. ⌜ r ≡ quantityKind quantity ⌝ }
+{
+    match quantity {
+        Quantity::Units(_) => 2,
+        Quantity::Nominal(_) => 3,
+        Quantity::Monetary(_) => 4,
+        Quantity::Malformed => 0,
+    }
+}
