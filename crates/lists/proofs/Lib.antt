@@ -1,0 +1,7 @@
+-- The laws that the crates above cite.
+pub mod RowLaws
+pub mod SomeLaws
+pub mod FrameLaws
+mod ScanLaws
+mod PassLaws
+mod Unique
