@@ -1,0 +1,6 @@
+-- The laws of identifiers.
+pub mod WrittenLaws
+pub mod CheckLaws
+pub mod PartyLaws
+pub mod PartyMeans
+mod Unique

@@ -1,0 +1,6 @@
+-- The words of document 01 for identifiers: LEI, ISIN, MIC, persons, and the party that a cell names.
+pub mod Written
+pub mod Codes
+pub mod Person
+pub mod Party
+pub mod Carried

@@ -1,0 +1,35 @@
+-- The examples that document 01 marks to be proved, in its order.
+use mathlib.Core.Path.{_≡_}
+use mathlib.Core.Bool.{true, false}
+use lib.IntN.{pos}
+use Rattle.text.specs.Ascii.{ascii}
+use Rattle.calendar.specs.Dates.{dateOf}
+use Rattle.calendar.specs.declared.dates.Date.the-variants.{On, Malformed as NoDate}
+use Rattle.ident.specs.Codes.{leiRight, isinRight}
+use Rattle.ident.specs.Person.{concatShaped}
+use Rattle.amount.specs.Price.{priceOf}
+use Rattle.amount.specs.declared.Price.the-variants.{Yield, Malformed as NoPrice}
+use Rattle.amount.specs.Quantity.{quantityOf}
+use Rattle.amount.specs.declared.Quantity.the-variants.{Units, Malformed as NoQuantity}
+
+pub record Examples : Type 0 where
+  -- LEI check: three right, one wrong
+  pub lei-98 : leiRight (ascii "00000000000000000098") ≡ true
+  pub lei-195 : leiRight (ascii "00000000000000000195") ≡ true
+  pub lei-A68 : leiRight (ascii "00000000000000000A68") ≡ true
+  pub lei-97 : leiRight (ascii "00000000000000000097") ≡ false
+  -- ISIN: one right, one wrong
+  pub isin-6 : isinRight (ascii "AA0000000006") ≡ true
+  pub isin-5 : isinRight (ascii "AA0000000005") ≡ false
+  -- days: one real, one not
+  pub leap-2000 : dateOf (ascii "2000-02-29") ≡ On 20000229
+  pub leap-2100 : dateOf (ascii "2100-02-29") ≡ NoDate
+  -- persons: one shaped, one not
+  pub john : concatShaped (ascii "DE19800101JOHN#SMITH") ≡ true
+  pub no-john : concatShaped (ascii "DE19800101#OHN#SMITH") ≡ false
+  -- UNT: `5.` good, `.5` not
+  pub five : quantityOf (ascii "UNT:5.") ≡ Units (record { mantissa = pos 5; places = 0 })
+  pub half : quantityOf (ascii "UNT:.5") ≡ NoQuantity
+  -- YLD: 1234567890.1 good, 12345678901.1 not
+  pub yield : priceOf (ascii "YLD:1234567890.1") ≡ Yield (record { mantissa = pos 12345678901; places = 1 })
+  pub no-yield : priceOf (ascii "YLD:12345678901.1") ≡ NoPrice
