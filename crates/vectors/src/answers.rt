@@ -1,8 +1,14 @@
 // What each call of a case answers, as a number: 1 and 0 for yes and no.
+ghost use Prim.Native.Nat.{_≤_};
 use crate::reading::unhex;
+use amount::Decimal;
+use amount::Price;
+use amount::Quantity;
 use calendar::Date;
 use calendar::Moment;
 use calendar::When;
+use ident::Identifier;
+use ident::Party;
 use text::Class;
 use utf8::Points;
 
@@ -132,6 +138,133 @@ fn of_calendar(call: &[u8], input: &[u8]) -> u64 {
     UNKNOWN
 }
 
+fn kind_number(identifier: Identifier) -> u64
+    ensures { λ r. ⌜ r ≤ 8 ⌝ }
+{
+    match identifier {
+        Identifier::Malformed => 0,
+        Identifier::Intc => 1,
+        Identifier::Nore => 2,
+        Identifier::Lei(_) => 3,
+        Identifier::Ccpt(_) => 4,
+        Identifier::Concat(_) => 5,
+        Identifier::Nidn(_) => 6,
+        Identifier::Mic(_) => 7,
+        Identifier::Algo(_) => 8,
+    }
+}
+
+// The kind of a party, and ten more where it has the person shape.
+fn party_number(party: Party) -> u64 {
+    let identifier = party.identifier;
+    let kind = kind_number(identifier);
+    if party.shaped {
+        return 10 + kind;
+    }
+    kind
+}
+
+fn of_ident(call: &[u8], input: &[u8]) -> u64 {
+    if text::same(call, b"lei_shaped") {
+        return yes(ident::lei_shaped(input));
+    }
+    if text::same(call, b"lei_remainder") {
+        return ident::lei_remainder(input) as u64;
+    }
+    if text::same(call, b"isin_right") {
+        return yes(ident::isin_right(input));
+    }
+    if text::same(call, b"mic_shaped") {
+        return yes(ident::mic_shaped(input));
+    }
+    if text::same(call, b"concat_shaped") {
+        return yes(ident::concat_shaped(input));
+    }
+    if text::same(call, b"number_shaped") {
+        return yes(ident::number_shaped(input));
+    }
+    if text::same(call, b"party7") {
+        return party_number(ident::parse_party(input, ident::allowed7()));
+    }
+    if text::same(call, b"party12") {
+        return party_number(ident::parse_party(input, ident::allowed12()));
+    }
+    if text::same(call, b"party57") {
+        return party_number(ident::parse_party(input, ident::allowed57()));
+    }
+    if text::same(call, b"party59") {
+        return party_number(ident::parse_party(input, ident::allowed59()));
+    }
+    UNKNOWN
+}
+
+fn nothing() -> Decimal {
+    Decimal {
+        mantissa: 0,
+        places: 99,
+    }
+}
+
+fn price_decimal(price: Price) -> Decimal {
+    match price {
+        Price::Pending => nothing(),
+        Price::NotApplicable => nothing(),
+        Price::Percent(d) => d,
+        Price::Money(d) => d,
+        Price::Yield(d) => d,
+        Price::BasisPoints(d) => d,
+        Price::Malformed => nothing(),
+    }
+}
+
+fn quantity_decimal(quantity: Quantity) -> Decimal {
+    match quantity {
+        Quantity::Units(d) => d,
+        Quantity::Nominal(d) => d,
+        Quantity::Monetary(d) => d,
+        Quantity::Malformed => nothing(),
+    }
+}
+
+// The mantissa is the number, written without a sign.
+fn is_mantissa(d: Decimal, written: &[u8]) -> bool {
+    d.mantissa == (text::number_in(written) % 1000000000000000000) as i64
+}
+
+fn of_amount(call: &[u8], input: &[u8]) -> u64 {
+    if text::same(call, b"decimal_18_17_19") {
+        return yes(amount::is_decimal(input, 18, 17, 19));
+    }
+    if text::same(call, b"decimal_18_5_19") {
+        return yes(amount::is_decimal(input, 18, 5, 19));
+    }
+    if text::same(call, b"signed_18_5_19") {
+        return yes(amount::is_signed_decimal(input, 18, 5, 19));
+    }
+    if text::same(call, b"price_kind") {
+        return amount::price_kind(amount::parse_price(input)) as u64;
+    }
+    if text::starts_with(call, b"price_is.") {
+        return yes(is_mantissa(price_decimal(amount::parse_price(input)), text::rest(call, 9)));
+    }
+    if text::same(call, b"price_negative") {
+        return yes(price_decimal(amount::parse_price(input)).mantissa < 0);
+    }
+    if text::same(call, b"price_places") {
+        return price_decimal(amount::parse_price(input)).places as u64;
+    }
+    if text::same(call, b"quantity_kind") {
+        return amount::quantity_kind(amount::parse_quantity(input)) as u64;
+    }
+    if text::starts_with(call, b"quantity_is.") {
+        return yes(is_mantissa(quantity_decimal(amount::parse_quantity(input)), text::rest(call, 12)));
+    }
+    if text::same(call, b"quantity_places") {
+        return quantity_decimal(amount::parse_quantity(input)).places as u64;
+    }
+    UNKNOWN
+}
+
 pub fn answer(call: &[u8], input: &[u8]) -> u64 {
     let a = of_text(call, input);
     if a != UNKNOWN {
@@ -141,5 +274,13 @@ pub fn answer(call: &[u8], input: &[u8]) -> u64 {
     if a != UNKNOWN {
         return a;
     }
-    of_calendar(call, input)
+    let a = of_calendar(call, input);
+    if a != UNKNOWN {
+        return a;
+    }
+    let a = of_ident(call, input);
+    if a != UNKNOWN {
+        return a;
+    }
+    of_amount(call, input)
 }

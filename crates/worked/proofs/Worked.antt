@@ -31,5 +31,5 @@ examples =
       five = refl;
       half = refl;
       yield = refl;
-      no-yield = refl
+      no-yield = refl;
     }

@@ -1,0 +1,7 @@
+-- Each public function's contract determines its answer.
+use Rattle.text.proofs.Determined.{Determined, same-both}
+use Rattle.cfi.proofs.cfi_findings.Kinds as cfi-findings-kinds
+use Rattle.cfi.proofs.cfi_findings.Reads as cfi-findings-reads
+
+pub cfi-findings-determined : Determined cfi-findings-kinds.ps cfi-findings-kinds.r cfi-findings-reads.Post
+cfi-findings-determined κs a x y s t = same-both

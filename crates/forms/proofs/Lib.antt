@@ -1,0 +1,3 @@
+-- Laws of the findings, cell by cell.
+pub mod FindingLaws
+mod Unique

@@ -1,0 +1,8 @@
+-- The laws that the crates above cite.
+pub mod BitLaws
+pub mod ListLaws
+pub mod OrderLaws
+pub mod PlaceLaws
+pub mod Promises
+mod MadeOf
+mod Unique

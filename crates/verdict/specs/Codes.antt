@@ -1,0 +1,29 @@
+-- The codes of findings, in rising order: which code each flag stands for.
+use Prim.Native.Nat.{ℕ, zero, suc}
+use mathlib.Core.List.{List, [], _∷_, _++_}
+
+-- the codes of the rules
+unfoldable pub ruleCodes : List ℕ
+ruleCodes =
+    23 ∷ 24 ∷ 25 ∷ 30 ∷ 40 ∷ 41 ∷ 60 ∷ 70 ∷ 71 ∷ 72 ∷ 73 ∷ 74 ∷
+    80 ∷ 110 ∷ 120 ∷ 121 ∷ 122 ∷ 123 ∷ 150 ∷ 160 ∷ 161 ∷ 162 ∷ 163 ∷ 164 ∷
+    170 ∷ 200 ∷ 210 ∷ 211 ∷ 212 ∷ 213 ∷ 240 ∷ 251 ∷ 260 ∷ 270 ∷ 280 ∷ 281 ∷
+    290 ∷ 310 ∷ 330 ∷ 331 ∷ 340 ∷ 350 ∷ 351 ∷ 360 ∷ 361 ∷ 362 ∷ 370 ∷ 371 ∷
+    372 ∷ 380 ∷ 440 ∷ 451 ∷ 473 ∷ 480 ∷ 481 ∷ 490 ∷ 500 ∷ 501 ∷ 502 ∷ 510 ∷
+    511 ∷ 520 ∷ 530 ∷ 531 ∷ 540 ∷ 541 ∷ 542 ∷ 550 ∷ 551 ∷ 552 ∷ 560 ∷ 570 ∷ []
+
+-- n numbers that follow one another, the first k
+abbrev pub numbersFrom : ℕ → ℕ → List ℕ
+numbersFrom zero k = []
+numbersFrom (suc n) k = k ∷ numbersFrom n (suc k)
+
+-- 1000 + f for each cell f from 1 to 65
+unfoldable pub formCodes : List ℕ
+formCodes = numbersFrom 65 1001
+
+unfoldable pub codes : List ℕ
+codes = ruleCodes ++ formCodes
+
+-- how many codes there are
+abbrev pub codeCount : ℕ
+codeCount = 137

@@ -1,0 +1,115 @@
+// From the flags of the codes to a verdict: three words with one bit a code, the count, the codes listed.
+//
+// Every public function answers for every input. Flags stand in the order of the codes, which rises.
+ghost use mathlib.Core.Path.{_≡_};
+ghost use Prim.Native.Nat.{_+_, _≤_};
+ghost use lib.Count.{ones};
+ghost use lib.ListN.{length};
+ghost use Rattle.verdict.specs.Verdict.{wordOf, pick, verdictOf, refusedBy};
+ghost use Rattle.verdict.specs.Findings.{over, findingsAfter, put};
+
+mod codes;
+
+use crate::codes::CODES;
+pub use codes::CODE_COUNT;
+
+#[repr(C)]
+pub struct Verdict {
+    // 0, or the number of a refusal
+    pub answer: u16,
+    // the findings
+    pub count: u16,
+    // one bit a code, from the first word's lowest bit
+    pub words: [u64; 3],
+}
+
+// The flags as binary digits, taken from the highest down.
+fn word(flags: &[bool]) -> u64
+    requires { ⌜ length (now flags) ≤ 64 ⌝ }
+    ensures { λ r. ⌜ r ≡ wordOf (now (flags .entry)) ⌝ }
+{
+    let mut w: u64 = 0;
+    let mut i = flags.len();
+    while 0 < i {
+        i -= 1;
+        w = w * 2 + (flags[i] as u64);
+    }
+    w
+}
+
+fn ones_of(first: u64, second: u64, third: u64) -> u16
+    ensures { λ r. ⌜ r ≡ ones first + ones second + ones third ⌝ }
+{
+    (u64::count_ones(first) + u64::count_ones(second) + u64::count_ones(third)) as u16
+}
+
+// The verdict on a line that is not refused. The count is taken from the words, so that it is how many bits are set.
+pub fn judged(found: &[bool; CODE_COUNT]) -> Verdict
+    ensures { λ r. ⌜ r ≡ verdictOf (now (found .entry)) ⌝ }
+{
+    let all = &found[..];
+    let first = word(&all[0..64]);
+    let second = word(&all[64..128]);
+    let third = word(&all[128..]);
+    Verdict {
+        answer: 0,
+        count: ones_of(first, second, third),
+        words: [first, second, third],
+    }
+}
+
+pub fn refused(no: u16) -> Verdict
+    ensures { λ r. ⌜ r ≡ refusedBy no ⌝ }
+{
+    Verdict {
+        answer: no,
+        count: 0,
+        words: [0; 3],
+    }
+}
+
+// The codes of any table whose flags are set, into the first entries.
+fn list_by(table: &[u16], found: &[bool], findings: &mut [u16])
+    requires { ⌜ (length (now table) ≡ length (now found)) × (length (now found) ≤ length (now findings)) ⌝ }
+    ensures { λ r. ⌜ now (findings .exit) ≡ over (pick (now (table .entry)) (now (found .entry))) (now (findings .entry)) ⌝ }
+{
+    let mut n = 0;
+    let mut i = 0;
+    while i < found.len() {
+        if found[i] {
+            findings[n] = table[i];
+            n += 1;
+        }
+        i += 1;
+    }
+}
+
+// The codes found, into the first entries; nothing is written where there are fewer entries than codes.
+pub fn list(found: &[bool; CODE_COUNT], findings: &mut [u16])
+    ensures { λ r. ⌜ now (findings .exit) ≡ findingsAfter (now (found .entry)) (now (findings .entry)) ⌝ }
+{
+    if findings.len() < CODE_COUNT {
+        return;
+    }
+    let table = CODES;
+    list_by(&table, found, findings);
+}
+
+// A group of flags in place of those from `at` on; a group that goes past the last code changes none.
+pub fn place(base: [bool; CODE_COUNT], at: usize, group: &[bool]) -> [bool; CODE_COUNT]
+    ensures { λ r. ⌜ r ≡ put base at (now (group .entry)) ⌝ }
+{
+    if CODE_COUNT < at {
+        return base;
+    }
+    if CODE_COUNT - at < group.len() {
+        return base;
+    }
+    let mut found = base;
+    let mut i = 0;
+    while i < group.len() {
+        found[at + i] = group[i];
+        i += 1;
+    }
+    found
+}
