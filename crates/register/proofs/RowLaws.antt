@@ -1,0 +1,199 @@
+-- A register as rows: where the first row of a pair stands, and what a search for it has seen.
+use mathlib.Core.Path.{_≡_, _∙_, refl, sym, ap, subst}
+use mathlib.Core.Bool.{Bool, true, false}
+use mathlib.Core.List.{List, [], _∷_}
+use Prim.Native.Nat.{ℕ, zero, suc, _+_, _*_, _-_, _≤_, _<_}
+use native.Mathlib.Nat.{suc-mul, zero-mul, add-zero}
+use native.Mathlib.Numerals.{add-one}
+use native.Mathlib.Omega.{arith}
+use borrow.Author.Tests.{lt-ltb, ltb-true, ne-eqb}
+use lib.ListN.{length, getD, take, drop, length-drop}
+use lib.Seq.{drop-drop, getD-drop}
+use Rattle.text.specs.Word.{startsWith, same}
+use lib.Dec.{ltb}
+use Rattle.text.proofs.Bools.{by-test, and-left, and-right}
+use Rattle.register.specs.Frame.{width, place, used, framed, isUsed}
+use Rattle.register.specs.Rows.{Row, rowsIn, rowsOf, ownFrom, look, stateOf, standsAs, firstRow, standing, standingAt}
+use Rattle.register.specs.declared.rows.Found.{Found}
+use Rattle.register.specs.declared.rows.Found.the-variants.{At, Nowhere}
+use Rattle.register.specs.declared.rows.Standing.the-variants.{Absent, Live, Cancelled}
+use Rattle.register.proofs.Words.{starts-take}
+use Rattle.register.proofs.FrameLaws.{Framed, framed-is, is-framed, row-within}
+
+pub rows-counted : (n k : ℕ) (s : List ℕ) → length (rowsIn n k s) ≡ k
+unfolding rowsIn
+rows-counted n zero s = refl
+rows-counted n (suc k) s = ap suc (rows-counted n k (drop (width n) s))
+
+-- row k is the pair's, and none before it
+abbrev pub FirstAt : List ℕ → List Row → ℕ → Type 0
+FirstAt pair [] k = ⊥
+FirstAt pair (row ∷ rows) zero = same pair (row .key) ≡ true
+FirstAt pair (row ∷ rows) (suc k) = (same pair (row .key) ≡ false) × FirstAt pair rows k
+
+pub first-at : (i j : ℕ) (rows : List Row) (pair : List ℕ) → ownFrom i rows pair ≡ At j → (k : ℕ) × (j ≡ i + k) × FirstAt pair rows k
+unfolding ownFrom
+first-at i j [] pair h = let z : _≡_ {A = ℕ} 0 1 = cc in absurd (omega arith)
+first-at i j (row ∷ rows) pair h =
+    by-test
+    (same pair (row .key))
+    (λ t.
+    let e : At i ≡ At j = rw t at h in
+    let z : i ≡ j = cc in
+    (0, omega arith, t))
+    (λ t.
+    let (k, e, at) = first-at (i + 1) j rows pair (rw t at h) in
+    (suc k, omega arith, (t, at)))
+
+-- the first row of a pair is one of the rows, and what is kept of the pair stands there
+pub first-within : (n k m : ℕ) (s pair : List ℕ) → FirstAt pair (rowsIn n m s) k → k < m
+unfolding rowsIn
+first-within n k zero s pair h = absurd h
+first-within n zero (suc m) s pair h = omega arith
+first-within n (suc k) (suc m) s pair h = omega (arith, first-within n k m (drop (width n) s) pair (h .1))
+
+pub look-at : (n k m : ℕ) (s pair : List ℕ) → FirstAt pair (rowsIn n m s) k → look (rowsIn n m s) pair ≡ take (1 + n) (drop (k * width n + 73) s)
+unfolding rowsIn look
+look-at n k zero s pair h = absurd h
+look-at n zero (suc m) s pair h = let e : 0 * width n + 73 ≡ 73 = omega (arith, zero-mul (width n)) in rw (h, e)
+look-at n (suc k) (suc m) s pair h =
+    let e : width n + (k * width n + 73) ≡ suc k * width n + 73 = omega (arith, suc-mul k (width n)) in
+    rw (h .0) (look-at n k m (drop (width n) s) pair (h .1) ∙ ap (take (1 + n)) (drop-drop (k * width n + 73) (width n) s ∙ ap (λ j. drop j s) e))
+
+pub look-none : (i : ℕ) (rows : List Row) (pair : List ℕ) → ownFrom i rows pair ≡ Nowhere → look rows pair ≡ []
+unfolding ownFrom look
+look-none i [] pair h = refl
+look-none i (row ∷ rows) pair h =
+    by-test
+    (same pair (row .key))
+    (λ t.
+    let e : At i ≡ Nowhere = rw t at h in
+    let z : _≡_ {A = ℕ} 0 1 = cc in
+    absurd (omega arith))
+    (λ t. rw t (look-none (i + 1) rows pair (rw t at h)))
+
+stands-first : (n : ℕ) (s : List ℕ) → 0 < length s → standsAs (take (1 + n) s) ≡ stateOf (getD s 0 0)
+stands-first n [] h = absurd (omega arith)
+stands-first n (x ∷ s) h = let e : 1 + n ≡ suc n = omega arith in rw e
+
+module _ (version n : ℕ) (register pair : List ℕ) (f : Framed version n register) where
+  stands-at :
+      (k : ℕ) → FirstAt pair (rowsOf n register) k
+      → stateOf (getD register (place n k + 73) 0) ≡ standsAs (look (rowsOf n register) pair)
+  stands-at k at =
+      let few : k < used register = first-within n k (used register) (drop 9 register) pair at in
+      let more : place n k + width n ≤ length register = row-within n register k (f .head) (omega arith) in
+      let e : 9 + (k * width n + 73) ≡ place n k + 73 = omega arith in
+      let some : 0 < length (drop (place n k + 73) register) = simp length-drop (omega arith) in
+      sym
+      (ap
+      standsAs
+      (look-at n k (used register) (drop 9 register) pair at
+      ∙ ap (take (1 + n)) (drop-drop (k * width n + 73) 9 register ∙ ap (λ j. drop j register) e))
+      ∙ stands-first n (drop (place n k + 73) register) some
+      ∙ ap stateOf (getD-drop (place n k + 73) register 0 0 ∙ ap (λ j. getD register j 0) (add-zero (place n k + 73))))
+
+  stands-found :
+      (found : Found) → ownFrom 0 (rowsOf n register) pair ≡ found
+      → standingAt version n register found ≡ standsAs (look (rowsOf n register) pair)
+  unfolding standingAt isUsed
+  stands-found Nowhere e = sym (ap standsAs (look-none 0 (rowsOf n register) pair e))
+  stands-found (At j) e =
+      let (k, number, at) = first-at 0 j (rowsOf n register) pair e in
+      let z : k ≡ j = omega arith in
+      let at-j : FirstAt pair (rowsOf n register) j = subst (λ (m : ℕ). FirstAt pair (rowsOf n register) m) z at in
+      let few : j < used register = first-within n j (used register) (drop 9 register) pair at-j in
+      rw (is-framed f, lt-ltb j (used register) few) (stands-at j at-j)
+
+-- how a pair stands is what is read where it was found
+pub standing-found :
+    (version n : ℕ) (register pair : List ℕ)
+    → standingAt version n register (firstRow version n register pair) ≡ standing version n register pair
+unfolding firstRow standing standingAt
+standing-found version n register pair =
+    by-test
+    (framed version n register)
+    (λ t. rw t (stands-found version n register pair (framed-is version n register t) (ownFrom 0 (rowsOf n register) pair) refl))
+    (λ t. rw t)
+
+-- the rows before number i, which begins at `at`, are other pairs'
+pub record SearchSoFar (version n : ℕ) (register pair : List ℕ) (count i at : ℕ) : Type 0 where
+  pub framed-one : framed version n register ≡ true
+  pub count-is : count ≡ used register
+  pub within : i ≤ count
+  pub place-is : at ≡ place n i
+  pub left : ownFrom 0 (rowsOf n register) pair ≡ ownFrom i (rowsIn n (count - i) (drop at register)) pair
+
+pub search-start :
+    {version n : ℕ} {register pair : List ℕ} {count : ℕ} → framed version n register ≡ true → count ≡ used register
+    → SearchSoFar version n register pair count 0 9
+search-start {version} {n} {register} {pair} {count} f e =
+    let z : count - 0 ≡ used register = omega arith in
+    record {
+      framed-one = f;
+      count-is = e;
+      within = omega arith;
+      place-is = omega (arith, zero-mul (width n));
+      left = rw z;
+    }
+
+module _ {version n : ℕ} {register pair : List ℕ} {count i at : ℕ} (so-far : SearchSoFar version n register pair count i at) where
+  compared : (b : Bool) → length pair ≡ 73 → startsWith pair (drop at register) ≡ b → same pair (take 73 (drop at register)) ≡ b
+  compared b l e = sym (starts-take pair (drop at register) ∙ ap (λ k. same pair (take k (drop at register))) l) ∙ e
+
+  pub search-small : i < count → at + width n ≤ length register
+  search-small h =
+      let f : Framed version n register = framed-is version n register (so-far .framed-one) in
+      let m : place n i + width n ≤ length register = row-within n register i (f .head) (omega arith) in
+      omega arith
+
+  pub search-hit : i < count → length pair ≡ 73 → startsWith pair (drop at register) ≡ true → At i ≡ firstRow version n register pair
+  unfolding firstRow ownFrom rowsIn
+  search-hit h l e =
+      let k : count - i ≡ suc (count - (i + 1)) = omega arith in
+      rw (so-far .framed-one) (sym (so-far .left ∙ rw (k, compared true l e)))
+
+  pub search-on : i < count → length pair ≡ 73 → startsWith pair (drop at register) ≡ false → SearchSoFar version n register pair count (i + 1) (at + width n)
+  unfolding ownFrom rowsIn
+  search-on h l e =
+      let k : count - i ≡ suc (count - (i + 1)) = omega arith in
+      let p : (i + 1) * width n ≡ i * width n + width n = ap (λ j. j * width n) (add-one i) ∙ suc-mul i (width n) in
+      record {
+        framed-one = so-far .framed-one;
+        count-is = so-far .count-is;
+        within = omega arith;
+        place-is = omega arith;
+        left = so-far .left ∙ rw (k, compared false l e, drop-drop (width n) at register);
+      }
+
+  pub search-end : count ≤ i → Nowhere ≡ firstRow version n register pair
+  unfolding firstRow ownFrom rowsIn
+  search-end h =
+      let k : count - i ≡ 0 = omega arith in
+      rw (so-far .framed-one) (sym (so-far .left ∙ rw k))
+
+-- a register that is not framed holds no pair, and neither does a row that is not used
+pub first-unframed : (version n : ℕ) (register pair : List ℕ) → framed version n register ≡ false → Nowhere ≡ firstRow version n register pair
+unfolding firstRow
+first-unframed version n register pair e = rw e
+
+pub used-row-within : (version n : ℕ) (register : List ℕ) (k : ℕ) → isUsed version n register k ≡ true → place n k + width n ≤ length register
+unfolding isUsed
+used-row-within version n register k e =
+    let f : Framed version n register = framed-is version n register (and-left (framed version n register) (ltb k (used register)) e) in
+    let few : k < used register = ltb-true k (used register) (and-right (framed version n register) (ltb k (used register)) e) in
+    row-within n register k (f .head) (omega arith)
+
+module _ (version n : ℕ) (register : List ℕ) (k : ℕ) where
+  pub stands-unused : isUsed version n register k ≡ false → Absent ≡ standingAt version n register (At k)
+  unfolding standingAt
+  stands-unused e = rw e
+
+  module _ (e : isUsed version n register k ≡ true) {state : ℕ} (read : state ≡ getD register (place n k + 73) 0) where
+    pub stands-live : state ≡ 1 → Live ≡ standingAt version n register (At k)
+    unfolding standingAt
+    stands-live h = rw (e, ← read, h)
+
+    pub stands-cancelled : (state ≡ 1 → ⊥) → Cancelled ≡ standingAt version n register (At k)
+    unfolding standingAt
+    stands-cancelled h = rw (e, ← read, ne-eqb state 1 h)

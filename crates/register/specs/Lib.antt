@@ -1,0 +1,6 @@
+-- The register of document 01: its head, the bytes of a pair, its rows, and what is written.
+pub mod Frame
+pub mod Pair
+pub mod Rows
+pub mod Written
+pub mod Table

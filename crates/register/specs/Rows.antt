@@ -1,0 +1,61 @@
+-- A register as rows, and a pair among them.
+use Prim.Native.Nat.{ℕ, zero, suc, _+_}
+use mathlib.Core.Bool.{cond}
+use mathlib.Core.List.{List, [], _∷_}
+use lib.Dec.{eqb}
+use lib.ListN.{take, drop, getD}
+use Rattle.text.specs.Word.{same}
+use Rattle.register.specs.Frame.{width, place, used, framed, isUsed}
+use Rattle.register.specs.declared.rows.Found.{Found}
+use Rattle.register.specs.declared.rows.Found.the-variants.{At, Nowhere}
+use Rattle.register.specs.declared.rows.Standing.{Standing}
+use Rattle.register.specs.declared.rows.Standing.the-variants.{Absent, Live, Cancelled}
+
+-- the 73 bytes of a pair, and what is kept of it: the state, then n bytes
+pub record Row : Type 0 where
+  pub key : List ℕ
+  pub value : List ℕ
+
+-- the row that s begins with
+abbrev pub rowIn : ℕ → List ℕ → Row
+rowIn n s = record { key = take 73 s; value = take (1 + n) (drop 73 s) }
+
+-- the first k rows of s
+unfoldable pub rowsIn : ℕ → ℕ → List ℕ → List Row
+rowsIn n zero s = []
+rowsIn n (suc k) s = rowIn n s ∷ rowsIn n k (drop (width n) s)
+
+-- the used rows
+abbrev pub rowsOf : ℕ → List ℕ → List Row
+rowsOf n register = rowsIn n (used register) (drop 9 register)
+
+-- the first row that is the pair's, where the first of the rows has number i
+unfoldable pub ownFrom : ℕ → List Row → List ℕ → Found
+ownFrom i [] pair = Nowhere
+ownFrom i (row ∷ rows) pair = cond (same pair (row .key)) (At i) (ownFrom (i + 1) rows pair)
+
+-- what the first row that is the pair's keeps of it; nothing where there is none
+unfoldable pub look : List Row → List ℕ → List ℕ
+look [] pair = []
+look (row ∷ rows) pair = cond (same pair (row .key)) (row .value) (look rows pair)
+
+-- 1 live, else cancelled
+abbrev pub stateOf : ℕ → Standing
+stateOf state = cond (eqb state 1) Live Cancelled
+
+abbrev pub standsAs : List ℕ → Standing
+standsAs [] = Absent
+standsAs (state ∷ more) = stateOf state
+
+-- a register that is not framed holds no pair
+unfoldable pub firstRow : (version n : ℕ) → List ℕ → List ℕ → Found
+firstRow version n register pair = cond (framed version n register) (ownFrom 0 (rowsOf n register) pair) Nowhere
+
+unfoldable pub standing : (version n : ℕ) → List ℕ → List ℕ → Standing
+standing version n register pair = cond (framed version n register) (standsAs (look (rowsOf n register) pair)) Absent
+
+-- by the state of the used row where it was found
+unfoldable pub standingAt : (version n : ℕ) → List ℕ → Found → Standing
+standingAt version n register Nowhere = Absent
+standingAt version n register (At k) =
+    cond (isUsed version n register k) (stateOf (getD register (place n k + 73) 0)) Absent

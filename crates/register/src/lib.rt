@@ -1,0 +1,21 @@
+// The register of pairs: which entity's reference is live, and which is cancelled.
+//
+// A register is bytes that the caller lends: the mark TRN, a 16-bit version, 32 bits of rows used, then rows. Every
+// function answers for every input. One that is not framed holds no pair, and no byte of it is ever changed.
+mod frame;
+mod pairs;
+mod rows;
+mod writes;
+
+pub use frame::capacity;
+pub use frame::framed;
+pub use frame::full;
+pub use frame::used;
+pub use pairs::pair_bytes;
+pub use rows::Found;
+pub use rows::Standing;
+pub use rows::find;
+pub use rows::standing_at;
+pub use rows::standing_of;
+pub use writes::set_cancelled;
+pub use writes::set_live;
