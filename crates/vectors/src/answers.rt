@@ -245,7 +245,10 @@ fn of_amount(call: &[u8], input: &[u8]) -> u64 {
         return amount::price_kind(amount::parse_price(input)) as u64;
     }
     if text::starts_with(call, b"price_is.") {
-        return yes(is_mantissa(price_decimal(amount::parse_price(input)), text::rest(call, 9)));
+        return yes(is_mantissa(
+            price_decimal(amount::parse_price(input)),
+            text::rest(call, 9),
+        ));
     }
     if text::same(call, b"price_negative") {
         return yes(price_decimal(amount::parse_price(input)).mantissa < 0);
@@ -257,7 +260,10 @@ fn of_amount(call: &[u8], input: &[u8]) -> u64 {
         return amount::quantity_kind(amount::parse_quantity(input)) as u64;
     }
     if text::starts_with(call, b"quantity_is.") {
-        return yes(is_mantissa(quantity_decimal(amount::parse_quantity(input)), text::rest(call, 12)));
+        return yes(is_mantissa(
+            quantity_decimal(amount::parse_quantity(input)),
+            text::rest(call, 12),
+        ));
     }
     if text::same(call, b"quantity_places") {
         return quantity_decimal(amount::parse_quantity(input)).places as u64;
