@@ -29,7 +29,7 @@ pub cells-count : (s : List ℕ) → length (cellsOf s) ≡ barsOf s + 1
 unfolding cellsOf
 cells-count s = rw add-one (ap suc (later-count s))
 
--- no cell holds a bar: with the two laws above, the cells of a line are the only ones that join to it
+-- no cell holds a bar
 first-free : (s : List ℕ) → barsOf (firstCell s) ≡ 0
 first-free [] = refl
 first-free (b ∷ s) = by-test (isBar b) (λ t. rw t) (λ t. rw (t, t) (first-free s))

@@ -1,0 +1,2 @@
+-- Laws of the good cells.
+mod GoodCells

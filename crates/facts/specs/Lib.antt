@@ -1,0 +1,5 @@
+-- The rules of document 01 in its own words, and the facts that the engine works out for them.
+pub mod Call
+pub mod Words
+pub mod Rules
+pub mod Facts

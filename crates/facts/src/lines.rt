@@ -1,0 +1,202 @@
+// All facts of a line.
+ghost use mathlib.Core.Path.{_≡_};
+ghost use mathlib.Core.Bool.{false, not};
+ghost use mathlib.Core.List.{List, _∷_, map};
+ghost use Prim.Native.Nat.{ℕ};
+ghost use Rattle.cells.specs.Split.{Tabled};
+ghost use Rattle.forms.specs.Findings.{formFindings};
+ghost use Rattle.facts.specs.Call.{call};
+ghost use Rattle.facts.specs.Words.{isLive, isAbsent, isCancelled};
+ghost use Rattle.facts.specs.Rules.{pairStands};
+ghost use Rattle.facts.specs.Facts.{dealOf, factsOf};
+use crate::entities::EntityFacts;
+use crate::entities::entity_facts;
+use crate::money::MoneyFacts;
+use crate::money::money_facts;
+use crate::parties::PartiesFacts;
+use crate::parties::country_wrong;
+use crate::parties::parties_facts;
+use crate::times::TimeFacts;
+use crate::times::moment_of;
+use crate::times::time_facts;
+use crate::trades::TradeFacts;
+use crate::trades::holdings;
+use crate::trades::trade_facts;
+use register::Standing;
+
+pub struct DealFacts {
+    // 251, 290 and 570
+    pub transmitted: bool,
+    pub not_own: bool,
+    pub undecided: bool,
+}
+
+pub struct Facts {
+    pub new: bool,
+    pub cxl: bool,
+    // cell f has no form finding, by its number; 0 stands for no cell
+    pub ok: [bool; 66],
+    // 023, 024 and 025
+    pub live: bool,
+    pub absent: bool,
+    pub cancelled: bool,
+    pub entity: EntityFacts,
+    pub parties: PartiesFacts,
+    // 080, 170 and 371
+    pub country8: bool,
+    pub country17: bool,
+    pub country37: bool,
+    pub time: TimeFacts,
+    pub deal: DealFacts,
+    pub money: MoneyFacts,
+    pub trade: TradeFacts,
+    // the 19 codes by CFI, rising
+    pub cfi: [bool; 19],
+}
+
+fn is_live(standing: Standing) -> bool
+    ensures { λ r. ⌜ r ≡ isLive standing ⌝ }
+{
+    match standing {
+        Standing::Live => true,
+        Standing::Absent => false,
+        Standing::Cancelled => false,
+    }
+}
+
+fn is_absent(standing: Standing) -> bool
+    ensures { λ r. ⌜ r ≡ isAbsent standing ⌝ }
+{
+    match standing {
+        Standing::Absent => true,
+        Standing::Live => false,
+        Standing::Cancelled => false,
+    }
+}
+
+fn is_cancelled(standing: Standing) -> bool
+    ensures { λ r. ⌜ r ≡ isCancelled standing ⌝ }
+{
+    match standing {
+        Standing::Cancelled => true,
+        Standing::Absent => false,
+        Standing::Live => false,
+    }
+}
+
+// From the form findings of the 65 cells to what is good, by cell number.
+fn good_cells(found: &[bool; 65]) -> [bool; 66]
+    ensures { λ r. ⌜ r ≡ false ∷ map not (now (found .entry)) ⌝ }
+{
+    let all = &found[..];
+    let mut ok = [false; 66];
+    let mut i = 0;
+    while i < 65 {
+        ok[i + 1] = !all[i];
+        i += 1;
+    }
+    ok
+}
+
+// `entity`: one of the parties is the executing entity.
+fn deal_facts(c25: &[u8], c26: &[u8], c27: &[u8], c29: &[u8], c57: &[u8], entity: bool) -> DealFacts
+    ensures { λ r. ⌜ r ≡ dealOf (now (c25 .entry)) (now (c26 .entry)) (now (c27 .entry)) (now (c29 .entry)) (now (c57 .entry)) entity ⌝ }
+{
+    let deal = text::same(c29, b"DEAL");
+    DealFacts {
+        transmitted: (deal | text::same(c29, b"MTCH")) & !text::same(c25, b"FALSE"),
+        not_own: deal & !entity,
+        undecided: deal & ((c26.len() == 0) & (c27.len() == 0) & (c57.len() == 0)),
+    }
+}
+
+// The line's split, its form findings, the five lists, how its pair stands in the register, and the submission moment.
+pub fn line_facts<'a, 't>(
+    line: &'a [u8],
+    starts: &'t [usize; 65],
+    ends: &'t [usize; 65],
+    found: &[bool; 65],
+    lei: &[u8],
+    cty: &[u8],
+    ccy: &[u8],
+    ven: &[u8],
+    ins: &[u8],
+    standing: Standing,
+    day: u32,
+    micro: u64,
+) -> Facts
+    requires { ⌜ Tabled (now line) (now starts) (now ends) × (now found ≡ formFindings (now line)) ⌝ }
+    ensures { λ r. ⌜ ((register : List ℕ) → standing ≡ pairStands register (now (line .entry)) → r ≡ factsOf (call (now (line .entry)) (now (lei .entry)) (now (cty .entry)) (now (ccy .entry)) (now (ven .entry)) (now (ins .entry)) register day micro)) ⌝ }
+{
+    let c1 = cells::cell(line, starts, ends, 1);
+    let c25 = cells::cell(line, starts, ends, 25);
+    let c26 = cells::cell(line, starts, ends, 26);
+    let c27 = cells::cell(line, starts, ends, 27);
+    let moment = moment_of(cells::cell(line, starts, ends, 28));
+    let t = moment.day;
+    let c37 = cells::cell(line, starts, ends, 37);
+    let parties = parties_facts(line, starts, ends, lei, cty, ven, t);
+    let buyer = parties.buyer;
+    let seller = parties.seller;
+    let held = holdings(line, starts, ends);
+    Facts {
+        new: text::same(c1, b"NEW"),
+        cxl: text::same(c1, b"CXL"),
+        ok: good_cells(found),
+        live: is_live(standing),
+        absent: is_absent(standing),
+        cancelled: is_cancelled(standing),
+        entity: entity_facts(
+            lei,
+            cells::cell(line, starts, ends, 4),
+            cells::cell(line, starts, ends, 5),
+            cells::cell(line, starts, ends, 6),
+            c26,
+            c27,
+            t,
+            day,
+        ),
+        parties,
+        country8: country_wrong(cty, cells::cell(line, starts, ends, 8), t),
+        country17: country_wrong(cty, cells::cell(line, starts, ends, 17), t),
+        country37: country_wrong(cty, c37, t),
+        time: time_facts(
+            moment,
+            cells::cell(line, starts, ends, 54),
+            cells::cell(line, starts, ends, 55),
+            day,
+            micro,
+        ),
+        deal: deal_facts(
+            c25,
+            c26,
+            c27,
+            cells::cell(line, starts, ends, 29),
+            cells::cell(line, starts, ends, 57),
+            buyer.entity | seller.entity,
+        ),
+        money: money_facts(
+            ccy,
+            cells::cell(line, starts, ends, 31),
+            cells::cell(line, starts, ends, 34),
+            cells::cell(line, starts, ends, 44),
+            cells::cell(line, starts, ends, 45),
+            cells::cell(line, starts, ends, 52),
+            t,
+        ),
+        trade: trade_facts(
+            ven,
+            ins,
+            cells::cell(line, starts, ends, 3),
+            c25,
+            cells::cell(line, starts, ends, 36),
+            c37,
+            cells::cell(line, starts, ends, 41),
+            cells::cell(line, starts, ends, 35),
+            held[30],
+            held[33],
+            t,
+        ),
+        cfi: cfi::cfi_findings(&held, cells::cell(line, starts, ends, 43)),
+    }
+}

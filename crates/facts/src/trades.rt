@@ -1,0 +1,141 @@
+// The venue, the instrument, and what the cells hold.
+ghost use mathlib.Core.Path.{_≡_};
+ghost use Rattle.cells.specs.Split.{Tabled};
+ghost use Rattle.facts.specs.Words.{heldAtAll, heldWord, heldQuantity, heldPrice, heldSwap};
+ghost use Rattle.facts.specs.Rules.{holdings};
+ghost use Rattle.facts.specs.Facts.{tradeOf};
+use crate::parties::is_off;
+
+pub struct TradeFacts {
+    // 030, 360, 361, 362, 370 and 372
+    pub no_code: bool,
+    pub unknown: bool,
+    pub listed_off: bool,
+    pub transmitted: bool,
+    pub no_branch: bool,
+    pub branch: bool,
+    // 331 and 351
+    pub debt_in_units: bool,
+    pub bond_without_net: bool,
+}
+
+// The cells of a trade that the venue's and the instrument's rules read: 3, 25, 35, 36, 37 and 41, with what 30 and 33 hold.
+pub fn trade_facts(
+    ven: &[u8],
+    ins: &[u8],
+    c3: &[u8],
+    c25: &[u8],
+    c36: &[u8],
+    c37: &[u8],
+    c41: &[u8],
+    c35: &[u8],
+    quantity: u8,
+    price: u8,
+    t: u32,
+) -> TradeFacts
+    ensures { λ r. ⌜ r ≡ tradeOf (now (ven .entry)) (now (ins .entry)) (now (c3 .entry)) (now (c25 .entry)) (now (c36 .entry)) (now (c37 .entry)) (now (c41 .entry)) (now (c35 .entry)) quantity price t ⌝ }
+{
+    let venue = lists::venue_rows(ven, c36, t);
+    let rows = lists::instrument_rows(ins, c41, t);
+    let off = is_off(c36);
+    TradeFacts {
+        no_code: (c3.len() != 0) & (off | venue.kind2 | venue.kind3),
+        unknown: !off & !(venue.kind1 | venue.kind2 | venue.kind3),
+        listed_off: text::same(c36, b"XXXX") & rows.listed,
+        transmitted: text::same(c25, b"TRUE") & !off,
+        no_branch: (venue.kind1 | venue.kind3) & (c37.len() == 0),
+        branch: (c37.len() != 0) & (off | venue.kind2),
+        debt_in_units: rows.debt & ((quantity == 2) & (price == 4)),
+        bond_without_net: rows.bond & (c35.len() == 0),
+    }
+}
+
+fn held_at_all(s: &[u8]) -> u8
+    ensures { λ r. ⌜ r ≡ heldAtAll (now (s .entry)) ⌝ }
+{
+    if s.len() == 0 {
+        return 1;
+    }
+    2
+}
+
+// One of three words, numbered from 2 on.
+fn held_word(s: &[u8], first: &[u8], second: &[u8], third: &[u8]) -> u8
+    ensures { λ r. ⌜ r ≡ heldWord (now (first .entry)) (now (second .entry)) (now (third .entry)) (now (s .entry)) ⌝ }
+{
+    if s.len() == 0 {
+        return 1;
+    }
+    if text::same(s, first) {
+        return 2;
+    }
+    if text::same(s, second) {
+        return 3;
+    }
+    if text::same(s, third) {
+        return 4;
+    }
+    0
+}
+
+fn held_quantity(s: &[u8]) -> u8
+    ensures { λ r. ⌜ r ≡ heldQuantity (now (s .entry)) ⌝ }
+{
+    if s.len() == 0 {
+        return 1;
+    }
+    amount::quantity_kind(amount::parse_quantity(s))
+}
+
+fn held_price(s: &[u8]) -> u8
+    ensures { λ r. ⌜ r ≡ heldPrice (now (s .entry)) ⌝ }
+{
+    if s.len() == 0 {
+        return 1;
+    }
+    amount::price_kind(amount::parse_price(s))
+}
+
+fn held_swap(s: &[u8]) -> u8
+    ensures { λ r. ⌜ r ≡ heldSwap (now (s .entry)) ⌝ }
+{
+    if s.len() == 0 {
+        return 1;
+    }
+    if text::starts_with(s, b"SWAP:") {
+        return 2;
+    }
+    3
+}
+
+// What each cell holds that the rules by CFI ask for, by cell number.
+pub fn holdings<'a, 't>(line: &'a [u8], starts: &'t [usize; 65], ends: &'t [usize; 65]) -> [u8; 66]
+    requires { ⌜ Tabled (now line) (now starts) (now ends) ⌝ }
+    ensures { λ r. ⌜ r ≡ holdings (now (line .entry)) ⌝ }
+{
+    let mut held = [0; 66];
+    held[30] = held_quantity(cells::cell(line, starts, ends, 30));
+    held[33] = held_price(cells::cell(line, starts, ends, 33));
+    held[35] = held_at_all(cells::cell(line, starts, ends, 35));
+    held[38] = held_at_all(cells::cell(line, starts, ends, 38));
+    held[47] = held_swap(cells::cell(line, starts, ends, 47));
+    held[48] = held_at_all(cells::cell(line, starts, ends, 48));
+    held[49] = held_at_all(cells::cell(line, starts, ends, 49));
+    held[50] = held_word(
+        cells::cell(line, starts, ends, 50),
+        b"PUTO",
+        b"CALL",
+        b"OTHR",
+    );
+    held[51] = held_at_all(cells::cell(line, starts, ends, 51));
+    held[53] = held_at_all(cells::cell(line, starts, ends, 53));
+    held[54] = held_at_all(cells::cell(line, starts, ends, 54));
+    held[55] = held_at_all(cells::cell(line, starts, ends, 55));
+    held[56] = held_word(
+        cells::cell(line, starts, ends, 56),
+        b"PHYS",
+        b"CASH",
+        b"OPTL",
+    );
+    held
+}

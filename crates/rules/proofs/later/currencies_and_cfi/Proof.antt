@@ -1,0 +1,55 @@
+use Rattle.rules.proofs.later.currencies_and_cfi.Statement.{statement}
+use Rattle.rules.proofs.later.currencies_and_cfi.Tie as tie
+use mathlib.Core.Path.{_≡_, _∙_, ap}
+use mathlib.Core.List.{map}
+use Rattle.cfi.specs.Rules.{cfiFindings}
+use Rattle.facts.specs.Rules.{given, rules5}
+use Rattle.facts.specs.Facts.{entityOf, partyFactsOf, partiesOf, timeOf, moneyOf, tradeOf, dealOf, factsOf}
+use Rattle.verdict.specs.Findings.{put}
+use borrow.Author.Needs.{needs}
+
+returns : tie.Need-returns
+unfolding factsOf entityOf partiesOf partyFactsOf timeOf moneyOf tradeOf dealOf cfiFindings
+returns c = λ k e. c .place .ensures ∙ ap (put (c .before .before .before .before .before .before .before .before .before .args .base) 48) (rw e)
+
+pub currencies-and-cfi-spec : {M : Type 1} → statement M
+currencies-and-cfi-spec =
+    tie.close
+    (tie.spec
+    (λ c. search needs)
+    (λ c. search needs)
+    (λ c. search needs)
+    (λ c. search needs)
+    (λ c. search needs)
+    (λ c. search needs)
+    (λ c. search needs)
+    (λ c. search needs)
+    (λ c. search needs)
+    (λ c. search needs)
+    (λ c. search needs)
+    (λ c. search needs)
+    (λ c. search needs)
+    (λ c. search needs)
+    (λ c. search needs)
+    (λ c. search needs)
+    (λ c. search needs)
+    (λ c. search needs)
+    (λ c. search needs)
+    (λ c. search needs)
+    (λ c. search needs)
+    (λ c. search needs)
+    (λ c. search needs)
+    (λ c. search needs)
+    (λ c. search needs)
+    (λ c. search needs)
+    (λ c. search needs)
+    (λ c. search needs)
+    (λ c. search needs)
+    (λ c. search needs)
+    (λ c. search needs)
+    (λ c. search needs)
+    (λ c. search needs)
+    (λ c. search needs)
+    (λ c. search needs)
+    (λ c κs. search needs)
+    returns)

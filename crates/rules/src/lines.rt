@@ -1,0 +1,56 @@
+// The 137 flags of a line: 72 rules, then 65 forms.
+ghost use mathlib.Core.Path.{_≡_};
+ghost use mathlib.Core.List.{List, _++_};
+ghost use Prim.Native.Nat.{ℕ};
+ghost use Rattle.cells.specs.Split.{Tabled};
+ghost use Rattle.forms.specs.Findings.{formFindings};
+ghost use Rattle.facts.specs.Call.{call};
+ghost use Rattle.facts.specs.Rules.{pairStands, flags};
+use crate::early::deciders_and_seller;
+use crate::early::pair_and_buyer;
+use crate::early::seller_and_time;
+use crate::later::cfi_and_dates;
+use crate::later::currencies_and_cfi;
+use crate::later::price_and_venue;
+use register::Standing;
+
+// The line's split, the five lists, how its pair stands in the register, and the submission moment.
+pub fn findings_of<'a, 't>(
+    line: &'a [u8],
+    starts: &'t [usize; 65],
+    ends: &'t [usize; 65],
+    lei: &[u8],
+    cty: &[u8],
+    ccy: &[u8],
+    ven: &[u8],
+    ins: &[u8],
+    standing: Standing,
+    day: u32,
+    micro: u64,
+) -> [bool; 137]
+    requires { ⌜ Tabled (now line) (now starts) (now ends) ⌝ }
+    ensures { λ r. ⌜ ((register : List ℕ) → standing ≡ pairStands register (now (line .entry)) → r ≡ flags (call (now (line .entry)) (now (lei .entry)) (now (cty .entry)) (now (ccy .entry)) (now (ven .entry)) (now (ins .entry)) register day micro) ++ formFindings (now (line .entry))) ⌝ }
+{
+    let forms = forms::form_findings(line, starts, ends);
+    let f = facts::line_facts(
+        line,
+        starts,
+        ends,
+        &forms,
+        lei,
+        cty,
+        ccy,
+        ven,
+        ins,
+        standing,
+        day,
+        micro,
+    );
+    let found = pair_and_buyer([false; 137], f);
+    let found = deciders_and_seller(found, f);
+    let found = seller_and_time(found, f);
+    let found = price_and_venue(found, f);
+    let found = currencies_and_cfi(found, f);
+    let found = cfi_and_dates(found, f);
+    verdict::place(found, 72, &forms)
+}
