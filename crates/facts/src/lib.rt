@@ -12,6 +12,7 @@ mod trades;
 pub use entities::EntityFacts;
 pub use lines::DealFacts;
 pub use lines::Facts;
+pub use lines::is_absent;
 pub use lines::line_facts;
 pub use money::MoneyFacts;
 pub use parties::PartiesFacts;

@@ -64,7 +64,7 @@ fn is_live(standing: Standing) -> bool
     }
 }
 
-fn is_absent(standing: Standing) -> bool
+pub fn is_absent(standing: Standing) -> bool
     ensures { λ r. ⌜ r ≡ isAbsent standing ⌝ }
 {
     match standing {

@@ -1,0 +1,114 @@
+use Rattle.judge.proofs.judge.Statement.{statement}
+use Rattle.judge.proofs.judge.Tie as tie
+use mathlib.Core.Path.{_≡_, _∙_, ap}
+use mathlib.Core.Bool.{cond}
+use mathlib.Core.List.{List, []}
+use borrow.Author.Tests.{not-true, not-false}
+use Rattle.text.specs.Ascii.{ascii}
+use Rattle.text.specs.Word.{same}
+use Rattle.cells.proofs.Tables.{split-whole, split-not}
+use Rattle.register.specs.Rows.{firstRow, standingAt}
+use Rattle.register.specs.Written.{setLive, setCancelled}
+use Rattle.register.proofs.RowLaws.{standing-found}
+use Rattle.facts.specs.Call.{Call, call}
+use Rattle.facts.specs.Words.{isAbsent}
+use Rattle.facts.specs.Rules.{pairStands}
+use Rattle.judge.specs.Refusal.{allFlags}
+use Rattle.judge.specs.Outcome.{pairOf, written}
+use Rattle.judge.proofs.Ways.{early-way, ten-way, found-way, full-way, clean-way}
+use borrow.Author.Needs.{needs}
+
+-- what the call gets
+abbrev C : tie.Start → Call
+C s =
+    call (s .args .line .now) (s .args .lei .now) (s .args .cty .now) (s .args .ccy .now) (s .args .ven .now) (s .args .ins .now) (s .args .register .now)
+    (s .args .day) (s .args .micro)
+
+returns : tie.Need-returns
+returns c = early-way (C (c .before .before .before .before .before .before .before .before .before .before .before .before)) (c .before .before .before .before .before .before .before .before .before .before .before .before .args .findings .now) (c .before .before .early-refusal .ensures) (c .before .if1 .taken) (c .refused .ensures)
+
+returns-2 : tie.Need-returns-2
+returns-2 c = ten-way (C (c .before .before .before .before .before .before .before .before .before .before .before .before .before .before)) (c .before .before .before .before .before .before .before .before .before .before .before .before .before .before .args .findings .now) (c .before .before .before .before .early-refusal .ensures) (c .before .before .before .if1 .left) (split-not (c .before .before .before .before .before .before .before .before .before .before .before .before .before .before .args .line .now) (c .before .before .split .result) (c .before .before .split .ensures) (not-true _ (c .before .if2 .taken))) (c .refused2 .ensures)
+
+pair-of-requires : tie.Need-pair-of-requires
+pair-of-requires c κs = split-whole (c .before .before .before .before .before .before .before .before .before .before .before .before .before .before .before .before .args .line .now) (c .before .before .before .before .split .result) (c .before .before .before .before .split .ensures) (not-false _ (c .before .before .before .if2 .left))
+
+findings-of-requires : tie.Need-findings-of-requires
+findings-of-requires c κs = split-whole (c .before .before .before .before .before .before .before .before .before .before .before .before .before .before .before .before .before .before .before .before .before .before .before .before .before .args .line .now) (c .before .before .before .before .before .before .before .before .before .before .before .before .before .split .result) (c .before .before .before .before .before .before .before .before .before .before .before .before .before .split .ensures) (not-false _ (c .before .before .before .before .before .before .before .before .before .before .before .before .if2 .left))
+
+returns-3 : tie.Need-returns-3
+unfolding pairStands allFlags
+returns-3 c =
+    let l = (c .before .before .before .before .before .before .before .before .before .before .before .before .before .before .before .before .before .before .before .before .before .before .before .before .before .before .before .before .before .before .before .before .before .before .before .args) .line .now in
+    let R = (c .before .before .before .before .before .before .before .before .before .before .before .before .before .before .before .before .before .before .before .before .before .before .before .before .before .before .before .before .before .before .before .before .before .before .before .args) .register .now in
+    let tabled = split-whole l (c .before .before .before .before .before .before .before .before .before .before .before .before .before .before .before .before .before .before .before .before .before .before .before .split .result) (c .before .before .before .before .before .before .before .before .before .before .before .before .before .before .before .before .before .before .before .before .before .before .before .split .ensures) (not-false _ (c .before .before .before .before .before .before .before .before .before .before .before .before .before .before .before .before .before .before .before .before .before .before .if2 .left)) in
+    let pair = (c .before .before .before .before .before .before .before .before .before .before .before .before .before .before .before .before .before .before .pair-of) .ensures in
+    let found : (c .before .before .before .before .before .before .before .before .before .before .before .before .before .before .before .find) .result ≡ firstRow 1 0 R (pairOf l) = c .before .before .before .before .before .before .before .before .before .before .before .before .before .before .before .find .ensures ∙ (λ j. firstRow 1 0 R (pair j)) in
+    let stands : (c .before .before .before .before .before .before .before .before .before .before .before .before .before .standing-at) .result ≡ pairStands R l = c .before .before .before .before .before .before .before .before .before .before .before .before .before .standing-at .ensures ∙ (λ j. standingAt 1 0 R (found j)) ∙ standing-found 1 0 R (pairOf l) in
+    let flags : (c .before .before .before .before .before .before .before .before .before .findings-of) .result ≡ allFlags (C (c .before .before .before .before .before .before .before .before .before .before .before .before .before .before .before .before .before .before .before .before .before .before .before .before .before .before .before .before .before .before .before .before .before .before .before)) = (c .before .before .before .before .before .before .before .before .before .findings-of) .ensures R stands in
+    found-way (C (c .before .before .before .before .before .before .before .before .before .before .before .before .before .before .before .before .before .before .before .before .before .before .before .before .before .before .before .before .before .before .before .before .before .before .before)) (c .before .before .before .before .before .before .before .before .before .before .before .before .before .before .before .before .before .before .before .before .before .before .before .before .before .before .before .before .before .before .before .before .before .before .before .args .findings .now) (c .before .before .before .before .before .before .before .before .before .before .before .before .before .before .before .before .before .before .before .before .before .before .before .before .before .early-refusal .ensures) (c .before .before .before .before .before .before .before .before .before .before .before .before .before .before .before .before .before .before .before .before .before .before .before .before .if1 .left) (tabled .count) flags (c .before .before .before .before .before .before .before .judged .ensures) (c .before .before .before .before .before .if3 .taken) (c .before .before .list .ensures)
+
+cell-requires : tie.Need-cell-requires
+cell-requires c κs = split-whole (c .before .before .before .before .before .before .before .before .before .before .before .before .before .before .before .before .before .before .before .before .before .before .before .before .before .before .before .before .before .before .before .before .before .args .line .now) (c .before .before .before .before .before .before .before .before .before .before .before .before .before .before .before .before .before .before .before .before .before .split .result) (c .before .before .before .before .before .before .before .before .before .before .before .before .before .before .before .before .before .before .before .before .before .split .ensures) (not-false _ (c .before .before .before .before .before .before .before .before .before .before .before .before .before .before .before .before .before .before .before .before .if2 .left))
+
+returns-4 : tie.Need-returns-4
+unfolding pairStands allFlags
+returns-4 c =
+    let l = (c .before .before .before .before .before .before .before .before .before .before .before .before .before .before .before .before .before .before .before .before .before .before .before .before .before .before .before .before .before .before .before .before .before .before .before .before .before .before .before .before .before .args) .line .now in
+    let R = (c .before .before .before .before .before .before .before .before .before .before .before .before .before .before .before .before .before .before .before .before .before .before .before .before .before .before .before .before .before .before .before .before .before .before .before .before .before .before .before .before .before .args) .register .now in
+    let tabled = split-whole l (c .before .before .before .before .before .before .before .before .before .before .before .before .before .before .before .before .before .before .before .before .before .before .before .before .before .before .before .before .before .split .result) (c .before .before .before .before .before .before .before .before .before .before .before .before .before .before .before .before .before .before .before .before .before .before .before .before .before .before .before .before .before .split .ensures) (not-false _ (c .before .before .before .before .before .before .before .before .before .before .before .before .before .before .before .before .before .before .before .before .before .before .before .before .before .before .before .before .if2 .left)) in
+    let pair = (c .before .before .before .before .before .before .before .before .before .before .before .before .before .before .before .before .before .before .before .before .before .before .before .before .pair-of) .ensures in
+    let found : (c .before .before .before .before .before .before .before .before .before .before .before .before .before .before .before .before .before .before .before .before .before .find) .result ≡ firstRow 1 0 R (pairOf l) = c .before .before .before .before .before .before .before .before .before .before .before .before .before .before .before .before .before .before .before .before .before .find .ensures ∙ (λ j. firstRow 1 0 R (pair j)) in
+    let stands : (c .before .before .before .before .before .before .before .before .before .before .before .before .before .before .before .before .before .before .before .standing-at) .result ≡ pairStands R l = c .before .before .before .before .before .before .before .before .before .before .before .before .before .before .before .before .before .before .before .standing-at .ensures ∙ (λ j. standingAt 1 0 R (found j)) ∙ standing-found 1 0 R (pairOf l) in
+    let flags : (c .before .before .before .before .before .before .before .before .before .before .before .before .before .before .before .findings-of) .result ≡ allFlags (C (c .before .before .before .before .before .before .before .before .before .before .before .before .before .before .before .before .before .before .before .before .before .before .before .before .before .before .before .before .before .before .before .before .before .before .before .before .before .before .before .before .before)) = (c .before .before .before .before .before .before .before .before .before .before .before .before .before .before .before .findings-of) .ensures R stands in
+    let new = c .before .before .before .before .before .same .ensures ∙ (λ j. same (ascii "NEW") ((c .before .before .before .before .before .before .before .cell .ensures) j)) in
+    let absent = c .before .before .before .before .is-absent .ensures ∙ ap isAbsent stands in
+    full-way (C (c .before .before .before .before .before .before .before .before .before .before .before .before .before .before .before .before .before .before .before .before .before .before .before .before .before .before .before .before .before .before .before .before .before .before .before .before .before .before .before .before .before)) (c .before .before .before .before .before .before .before .before .before .before .before .before .before .before .before .before .before .before .before .before .before .before .before .before .before .before .before .before .before .before .before .before .before .before .before .before .before .before .before .before .before .args .findings .now) (c .before .before .before .before .before .before .before .before .before .before .before .before .before .before .before .before .before .before .before .before .before .before .before .before .before .before .before .before .before .before .before .early-refusal .ensures) (c .before .before .before .before .before .before .before .before .before .before .before .before .before .before .before .before .before .before .before .before .before .before .before .before .before .before .before .before .before .before .if1 .left) (tabled .count) flags (c .before .before .before .before .before .before .before .before .before .before .before .before .before .judged .ensures) (c .before .before .before .before .before .before .before .before .before .before .before .if3 .left) new absent (c .before .before .full .ensures) (c .before .if4 .taken) (c .refused3 .ensures)
+
+returns-5 : tie.Need-returns-5
+unfolding pairStands allFlags written
+returns-5 c =
+    let l = (c .before .before .before .before .before .before .before .before .before .before .before .before .before .before .before .before .before .before .before .before .before .before .before .before .before .before .before .before .before .before .before .before .before .before .before .before .before .before .before .before .before .before .before .before .before .args) .line .now in
+    let R = (c .before .before .before .before .before .before .before .before .before .before .before .before .before .before .before .before .before .before .before .before .before .before .before .before .before .before .before .before .before .before .before .before .before .before .before .before .before .before .before .before .before .before .before .before .before .args) .register .now in
+    let tabled = split-whole l (c .before .before .before .before .before .before .before .before .before .before .before .before .before .before .before .before .before .before .before .before .before .before .before .before .before .before .before .before .before .before .before .before .before .split .result) (c .before .before .before .before .before .before .before .before .before .before .before .before .before .before .before .before .before .before .before .before .before .before .before .before .before .before .before .before .before .before .before .before .before .split .ensures) (not-false _ (c .before .before .before .before .before .before .before .before .before .before .before .before .before .before .before .before .before .before .before .before .before .before .before .before .before .before .before .before .before .before .before .before .if2 .left)) in
+    let pair = (c .before .before .before .before .before .before .before .before .before .before .before .before .before .before .before .before .before .before .before .before .before .before .before .before .before .before .before .before .pair-of) .ensures in
+    let found : (c .before .before .before .before .before .before .before .before .before .before .before .before .before .before .before .before .before .before .before .before .before .before .before .before .before .find) .result ≡ firstRow 1 0 R (pairOf l) = c .before .before .before .before .before .before .before .before .before .before .before .before .before .before .before .before .before .before .before .before .before .before .before .before .before .find .ensures ∙ (λ j. firstRow 1 0 R (pair j)) in
+    let stands : (c .before .before .before .before .before .before .before .before .before .before .before .before .before .before .before .before .before .before .before .before .before .before .before .standing-at) .result ≡ pairStands R l = c .before .before .before .before .before .before .before .before .before .before .before .before .before .before .before .before .before .before .before .before .before .before .before .standing-at .ensures ∙ (λ j. standingAt 1 0 R (found j)) ∙ standing-found 1 0 R (pairOf l) in
+    let flags : (c .before .before .before .before .before .before .before .before .before .before .before .before .before .before .before .before .before .before .before .findings-of) .result ≡ allFlags (C (c .before .before .before .before .before .before .before .before .before .before .before .before .before .before .before .before .before .before .before .before .before .before .before .before .before .before .before .before .before .before .before .before .before .before .before .before .before .before .before .before .before .before .before .before .before)) = (c .before .before .before .before .before .before .before .before .before .before .before .before .before .before .before .before .before .before .before .findings-of) .ensures R stands in
+    let new = c .before .before .before .before .before .before .before .before .before .same .ensures ∙ (λ j. same (ascii "NEW") ((c .before .before .before .before .before .before .before .before .before .before .before .cell .ensures) j)) in
+    let absent = c .before .before .before .before .before .before .before .before .is-absent .ensures ∙ ap isAbsent stands in
+    clean-way (C (c .before .before .before .before .before .before .before .before .before .before .before .before .before .before .before .before .before .before .before .before .before .before .before .before .before .before .before .before .before .before .before .before .before .before .before .before .before .before .before .before .before .before .before .before .before)) (c .before .before .before .before .before .before .before .before .before .before .before .before .before .before .before .before .before .before .before .before .before .before .before .before .before .before .before .before .before .before .before .before .before .before .before .before .before .before .before .before .before .before .before .before .before .args .findings .now) (c .before .before .before .before .before .before .before .before .before .before .before .before .before .before .before .before .before .before .before .before .before .before .before .before .before .before .before .before .before .before .before .before .before .before .before .early-refusal .ensures) (c .before .before .before .before .before .before .before .before .before .before .before .before .before .before .before .before .before .before .before .before .before .before .before .before .before .before .before .before .before .before .before .before .before .before .if1 .left) (tabled .count) flags (c .before .before .before .before .before .before .before .before .before .before .before .before .before .before .before .before .before .judged .ensures) (c .before .before .before .before .before .before .before .before .before .before .before .before .before .before .before .if3 .left) new absent (c .before .before .before .before .before .before .full .ensures) (c .before .before .before .before .before .if4 .left)
+    (c .before .before .settle .ensures ∙ (λ j. cond (new j) (setLive 1 0 [] R (found j) (pair j)) (setCancelled 1 0 [] R (found j))))
+
+pub judge-spec : {M : Type 1} → statement M
+judge-spec =
+    tie.close
+    (tie.spec
+    (λ c κs. search needs)
+    (λ c κs. search needs)
+    (λ c. search needs)
+    returns
+    (λ c κs. search needs)
+    (λ c κs. search needs)
+    (λ c. search needs)
+    returns-2
+    pair-of-requires
+    (λ c κs. search needs)
+    (λ c κs. search needs)
+    findings-of-requires
+    (λ c κs. search needs)
+    (λ c κs. search needs)
+    (λ c. search needs)
+    (λ c. search needs)
+    returns-3
+    cell-requires
+    (λ c. search needs)
+    (λ c κs. search needs)
+    (λ c κs. search needs)
+    (λ c κs. search needs)
+    (λ c κs. search needs)
+    (λ c. search needs)
+    returns-4
+    (λ c κs. search needs)
+    (λ c. search needs)
+    returns-5)

@@ -1,0 +1,57 @@
+-- The eleven refusals, in order of checking.
+use Prim.Native.Nat.{ℕ}
+use mathlib.Core.Bool.{Bool, not, _&&_}
+use mathlib.Core.List.{List, [], _∷_, _++_}
+use lib.Dec.{eqb, ltb}
+use lib.ListN.{length}
+use Rattle.text.specs.FirstFrom.{firstFrom}
+use Rattle.calendar.specs.Moments.{isMoment}
+use Rattle.cells.specs.Cells.{barsOf}
+use Rattle.forms.specs.Findings.{formFindings}
+use Rattle.lists.specs.Frame.{framed}
+use Rattle.lists.specs.declared.frame.Mark.the-variants.{Lei, Cty, Ccy, Ven, Ins}
+use Rattle.register.specs.Frame.{full}
+use Rattle.facts.specs.Call.{Call}
+use Rattle.facts.specs.Words.{isAbsent}
+use Rattle.facts.specs.Rules.{isNew, standingOf, flags}
+use Rattle.verdict.specs.Codes.{codeCount}
+use Rattle.verdict.specs.Verdict.{codesFound}
+use Rattle.register.specs.Frame as register
+
+-- the 137 flags of a call: 72 rules, 65 forms
+unfoldable pub allFlags : Call → List Bool
+allFlags c = flags c ++ formFindings (c .line)
+
+-- no finding
+unfoldable pub clean : Call → Bool
+clean c = eqb (length (codesFound (allFlags c))) 0
+
+-- a row a refusal: what it is given for, where none before applies. `room` is how many entries the findings buffer has
+abbrev pub early : Call → ℕ → List Bool
+early c room =
+    -- 1 to 5
+    not (framed Lei (c .lei))
+    ∷ not (framed Cty (c .cty))
+    ∷ not (framed Ccy (c .ccy))
+    ∷ not (framed Ven (c .ven))
+    ∷ not (framed Ins (c .ins))
+    -- 6: the register
+    ∷ not (register.framed 1 0 (c .register))
+    -- 7: the submission moment
+    ∷ not (isMoment (c .day) (c .micro))
+    -- 8: the findings buffer
+    ∷ ltb room codeCount
+    -- 9: the line's length
+    ∷ ltb 4096 (length (c .line))
+    ∷ []
+
+-- 10: not exactly 65 cells
+abbrev pub notWhole : Call → Bool
+notWhole c = not (eqb (barsOf (c .line)) 64)
+
+-- 11: no finding, NEW, pair not in the register, c rows used
+unfoldable pub noRoom : Call → Bool
+noRoom c = clean c && (isNew (c .line) && (isAbsent (standingOf c) && full 0 (c .register)))
+
+unfoldable pub refusal : Call → ℕ → ℕ
+refusal c room = firstFrom 1 (early c room ++ (notWhole c ∷ noRoom c ∷ []))

@@ -1,0 +1,139 @@
+// One line judged: refused by number, or answered with its findings, and the register written where there are none.
+ghost use mathlib.Core.Path.{_≡_};
+ghost use mathlib.Core.Bool.{cond};
+ghost use mathlib.Core.List.{[]};
+ghost use lib.ListN.{length};
+ghost use Rattle.text.specs.FirstFrom.{firstFrom};
+ghost use Rattle.cells.specs.Split.{Tabled};
+ghost use Rattle.register.specs.Written.{setLive, setCancelled};
+ghost use Rattle.facts.specs.Call.{call};
+ghost use Rattle.judge.specs.Refusal.{early};
+ghost use Rattle.judge.specs.Outcome.{pairOf, outcome, Judged};
+use lists::Mark;
+use register::Found;
+use verdict::Verdict;
+
+// The number of the first test that holds, counted from 1; 0 where none does.
+fn first_of(tests: [bool; 9]) -> u16
+    ensures { λ r. ⌜ r ≡ firstFrom 1 tests ⌝ }
+{
+    let mut i = 0;
+    while i < 9 {
+        if tests[i] {
+            return i as u16 + 1;
+        }
+        i += 1;
+    }
+    0
+}
+
+// Refusals 1 to 9. Each test is short, so all are made.
+fn early_refusal(
+    line: &[u8],
+    lei: &[u8],
+    cty: &[u8],
+    ccy: &[u8],
+    ven: &[u8],
+    ins: &[u8],
+    register: &[u8],
+    day: u32,
+    micro: u64,
+    room: usize,
+) -> u16
+    ensures { λ r. ⌜ r ≡ firstFrom 1 (early (call (now (line .entry)) (now (lei .entry)) (now (cty .entry)) (now (ccy .entry)) (now (ven .entry)) (now (ins .entry)) (now (register .entry)) day micro) room) ⌝ }
+{
+    first_of([
+        !lists::framed(Mark::Lei, lei),
+        !lists::framed(Mark::Cty, cty),
+        !lists::framed(Mark::Ccy, ccy),
+        !lists::framed(Mark::Ven, ven),
+        !lists::framed(Mark::Ins, ins),
+        !register::framed(register),
+        !calendar::is_moment(day, micro),
+        room < 137,
+        4096 < line.len(),
+    ])
+}
+
+fn pair_of<'a, 't>(line: &'a [u8], starts: &'t [usize; 65], ends: &'t [usize; 65]) -> [u8; 73]
+    requires { ⌜ Tabled (now line) (now starts) (now ends) ⌝ }
+    ensures { λ r. ⌜ r ≡ pairOf (now (line .entry)) ⌝ }
+{
+    register::pair_bytes(
+        cells::cell(line, starts, ends, 4),
+        cells::cell(line, starts, ends, 2),
+    )
+}
+
+// The register once a line is accepted.
+fn settle(register: &mut [u8], new: bool, found: Found, pair: &[u8; 73])
+    ensures { λ _. ⌜ now (register .exit) ≡ cond new (setLive 1 0 [] (now (register .entry)) found (now (pair .entry))) (setCancelled 1 0 [] (now (register .entry)) found) ⌝ }
+{
+    if new {
+        register::set_live(register, found, pair);
+    } else {
+        register::set_cancelled(register, found);
+    }
+}
+
+pub fn judge(
+    line: &[u8],
+    lei: &[u8],
+    cty: &[u8],
+    ccy: &[u8],
+    ven: &[u8],
+    ins: &[u8],
+    register: &mut [u8],
+    day: u32,
+    micro: u64,
+    findings: &mut [u16],
+) -> Verdict
+    ensures { λ r. ⌜ Judged (outcome (call (now (line .entry)) (now (lei .entry)) (now (cty .entry)) (now (ccy .entry)) (now (ven .entry)) (now (ins .entry)) (now (register .entry)) day micro) (length (now (findings .entry)))) (now (findings .entry)) r (now (findings .exit)) (now (register .exit)) ⌝ }
+{
+    let no = early_refusal(
+        line,
+        lei,
+        cty,
+        ccy,
+        ven,
+        ins,
+        register,
+        day,
+        micro,
+        findings.len(),
+    );
+    if no != 0 {
+        return verdict::refused(no);
+    }
+    let table = cells::split(line);
+    if !table.whole {
+        return verdict::refused(10);
+    }
+    let pair = pair_of(line, &table.starts, &table.ends);
+    let found = register::find(register, &pair);
+    let standing = register::standing_at(register, found);
+    let flags = rules::findings_of(
+        line,
+        &table.starts,
+        &table.ends,
+        lei,
+        cty,
+        ccy,
+        ven,
+        ins,
+        standing,
+        day,
+        micro,
+    );
+    let verdict = verdict::judged(&flags);
+    if verdict.count != 0 {
+        verdict::list(&flags, findings);
+        return verdict;
+    }
+    let new = text::same(cells::cell(line, &table.starts, &table.ends, 1), b"NEW");
+    if new & facts::is_absent(standing) & register::full(register) {
+        return verdict::refused(11);
+    }
+    settle(register, new, found, &pair);
+    verdict
+}
