@@ -1,7 +1,12 @@
 // Tries cases from outside on the crates below: a line of the input is what is expected, what is called and what it is
 // called on. A line that opens with # begins a group, whose count is printed behind its name.
 mod answers;
+mod judging;
+mod leaves;
+mod lent;
+mod lines;
 mod reading;
+mod values;
 
 use answers::answer;
 use libc::STDOUT_FILENO;
@@ -77,7 +82,7 @@ fn run(cases: &[u8]) {
 }
 
 fn main() {
-    let mut cases = [0u8; 262144];
+    let mut cases = [0u8; 524288];
     let n = io::read_full(0, &mut cases);
     run(&cases[..n]);
 }

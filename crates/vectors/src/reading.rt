@@ -1,6 +1,12 @@
-// Reading the lines of cases, and making the lines of reports that they speak of.
+// Reading the lines of cases: words, numbers, and bytes in hexadecimal.
 ghost use Prim.Native.Nat.{_≤_, _<_, min};
 ghost use lib.ListN.{length};
+
+// What no call answers.
+pub const UNKNOWN: u64 = 18446744073709551615;
+
+// The most bytes that a case writes in hexadecimal.
+pub const SPACE: usize = 2048;
 
 // The first place of a byte from a place on, or the end.
 pub fn place_of(s: &[u8], b: u8, from: usize) -> usize
@@ -16,6 +22,37 @@ pub fn place_of(s: &[u8], b: u8, from: usize) -> usize
     s.len()
 }
 
+// The place behind a byte's occurrence of that number, counted from 1; the start for 0.
+pub fn behind(s: &[u8], b: u8, count: usize) -> usize {
+    let mut at = 0;
+    let mut i = 0;
+    while i < count {
+        at = place_of(s, b, at) + 1;
+        i += 1;
+    }
+    at
+}
+
+// A word of a call, whose words are parted by points, counted from 0.
+pub fn word(call: &[u8], k: usize) -> &[u8] {
+    let start = behind(call, b'.', k);
+    text::part(call, start, place_of(call, b'.', start))
+}
+
+// A number that fits 32 bits.
+pub fn number(s: &[u8]) -> u32 {
+    (text::number_in(s) % 4294967296) as u32
+}
+
+pub fn yes(b: bool) -> u64
+    ensures { λ r. ⌜ r ≤ 1 ⌝ }
+{
+    if b {
+        return 1;
+    }
+    0
+}
+
 fn nibble(b: u8) -> u8
     ensures { λ r. ⌜ r < 16 ⌝ }
 {
@@ -26,12 +63,12 @@ fn nibble(b: u8) -> u8
     }
 }
 
-// Bytes written in pairs of hexadecimal digits, at most 64 of them.
-pub fn unhex(s: &[u8], out: &mut [u8; 64]) -> usize
-    ensures { λ r. ⌜ r ≤ 64 ⌝ }
+// Bytes written in pairs of hexadecimal digits, as many as there is space for.
+pub fn unhex(s: &[u8], out: &mut [u8; SPACE]) -> usize
+    ensures { λ r. ⌜ r ≤ 2048 ⌝ }
 {
     let mut n = 0;
-    while n < 64 {
+    while n < SPACE {
         let pair = text::part(s, n * 2, n * 2 + 2);
         if pair.len() < 2 {
             return n;
@@ -40,4 +77,9 @@ pub fn unhex(s: &[u8], out: &mut [u8; 64]) -> usize
         n += 1;
     }
     n
+}
+
+pub fn first_of(space: &[u8; SPACE], n: usize) -> &[u8] {
+    let all = &space[..];
+    text::head(all, n)
 }

@@ -5,10 +5,10 @@ use lib.ListN.{length}
 use borrow.Author.Needs.{needs}
 
 abbrev Inv-loop : tie.InvT-loop
-Inv-loop s out₀ n₀ out n = n ≤ 64
+Inv-loop s out₀ n₀ out n = n ≤ 2048
 
 abbrev μ-loop : tie.MeasureT-loop
-μ-loop s out₀ n₀ out n = 64 - n
+μ-loop s out₀ n₀ out n = 2048 - n
 
 pub unhex-spec : {M : Type 1} → statement M
 unhex-spec =

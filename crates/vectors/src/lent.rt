@@ -1,0 +1,162 @@
+// Lists and registers, in hexadecimal.
+ghost use Prim.Native.Nat.{_≤_};
+use crate::reading::SPACE;
+use crate::reading::UNKNOWN;
+use crate::reading::first_of;
+use crate::reading::number;
+use crate::reading::place_of;
+use crate::reading::unhex;
+use crate::reading::word;
+use crate::reading::yes;
+use lists::Mark;
+use register::Found;
+use register::Standing;
+
+fn mark_named(name: &[u8]) -> Mark {
+    if text::same(name, b"LEI") {
+        return Mark::Lei;
+    }
+    if text::same(name, b"CTY") {
+        return Mark::Cty;
+    }
+    if text::same(name, b"CCY") {
+        return Mark::Ccy;
+    }
+    if text::same(name, b"VEN") {
+        return Mark::Ven;
+    }
+    Mark::Ins
+}
+
+// Up to three answers as digits.
+fn digits(first: bool, second: bool, third: bool) -> u64 {
+    yes(first) * 100 + yes(second) * 10 + yes(third)
+}
+
+// What the list named by its mark says of a key on a day.
+fn looked_up(mark: Mark, list: &[u8], key: &[u8], day: u32) -> u64 {
+    match mark {
+        Mark::Lei => {
+            let r = lists::lei_rows(list, key, day);
+            digits(false, r.unlapsed, r.any)
+        }
+        Mark::Cty => digits(false, false, lists::country_known(list, key, day)),
+        Mark::Ccy => {
+            let r = lists::currency_rows(list, key, day);
+            digits(false, r.current, r.pre_euro)
+        }
+        Mark::Ven => {
+            let r = lists::venue_rows(list, key, day);
+            digits(r.kind1, r.kind2, r.kind3)
+        }
+        Mark::Ins => {
+            let r = lists::instrument_rows(list, key, day);
+            digits(r.listed, r.debt, r.bond)
+        }
+    }
+}
+
+// framed.MARK and rows.MARK.KEY.DAY on a list, the key in hexadecimal too.
+pub fn of_lists(call: &[u8], input: &[u8]) -> u64 {
+    let mut space = [0u8; SPACE];
+    let n = unhex(input, &mut space);
+    let list = first_of(&space, n);
+    let mark = mark_named(word(call, 1));
+    if text::starts_with(call, b"framed.") {
+        return yes(lists::framed(mark, list));
+    }
+    if text::starts_with(call, b"rows.") {
+        let mut key = [0u8; SPACE];
+        let k = unhex(word(call, 2), &mut key);
+        return looked_up(mark, list, first_of(&key, k), number(word(call, 3)));
+    }
+    UNKNOWN
+}
+
+fn row_number(found: Found) -> u64 {
+    match found {
+        Found::At(row) => row as u64,
+        Found::Nowhere => 99,
+    }
+}
+
+fn state_number(standing: Standing) -> u64
+    ensures { λ r. ⌜ r ≤ 2 ⌝ }
+{
+    match standing {
+        Standing::Absent => 0,
+        Standing::Live => 1,
+        Standing::Cancelled => 2,
+    }
+}
+
+fn set_pair(lent: &mut [u8], live: bool, pair: &[u8; 73]) {
+    let found = register::find(lent, pair);
+    if live {
+        register::set_live(lent, found, pair);
+    } else {
+        register::set_cancelled(lent, found);
+    }
+}
+
+fn set_in(all: &mut [u8], n: usize, live: bool, pair: &[u8; 73]) {
+    if n <= all.len() {
+        set_pair(&mut all[..n], live, pair);
+    }
+}
+
+// Sets the pair live or cancelled in the register of the first n bytes.
+fn set_in_first(space: &mut [u8; SPACE], n: usize, live: bool, pair: &[u8; 73]) {
+    set_in(&mut space[..], n, live, pair);
+}
+
+// Whether a register, after its pair was set live or cancelled, is what is written behind it.
+fn is_after(live: bool, pair: &[u8; 73], input: &[u8]) -> bool {
+    let end = place_of(input, b' ', 0);
+    let mut space = [0u8; SPACE];
+    let n = unhex(text::head(input, end), &mut space);
+    set_in_first(&mut space, n, live, pair);
+    let mut wanted = [0u8; SPACE];
+    let w = unhex(text::rest(input, end + 1), &mut wanted);
+    text::same(first_of(&space, n), first_of(&wanted, w))
+}
+
+// trn_framed, trn_capacity, trn_used, trn_full on a register.
+fn of_head(call: &[u8], register: &[u8]) -> u64 {
+    if text::same(call, b"trn_framed") {
+        return yes(register::framed(register));
+    }
+    if text::same(call, b"trn_capacity") {
+        return register::capacity(register) as u64;
+    }
+    if text::same(call, b"trn_used") {
+        return register::used(register) as u64;
+    }
+    if text::same(call, b"trn_full") {
+        return yes(register::full(register));
+    }
+    UNKNOWN
+}
+
+// pair.ENTITY.REFERENCE on the pair's bytes; stands on a register, the row in front of the state; live and cancelled on one
+// before and one after.
+pub fn of_register(call: &[u8], input: &[u8]) -> u64 {
+    let pair = register::pair_bytes(word(call, 1), word(call, 2));
+    if text::starts_with(call, b"live.") {
+        return yes(is_after(true, &pair, input));
+    }
+    if text::starts_with(call, b"cancelled.") {
+        return yes(is_after(false, &pair, input));
+    }
+    let mut space = [0u8; SPACE];
+    let n = unhex(input, &mut space);
+    let lent = first_of(&space, n);
+    if text::starts_with(call, b"pair.") {
+        return yes(text::same(lent, &pair));
+    }
+    if text::starts_with(call, b"stands.") {
+        let row = row_number(register::find(lent, &pair)) % 100;
+        return row * 10 + state_number(register::standing_of(lent, &pair));
+    }
+    of_head(call, lent)
+}
