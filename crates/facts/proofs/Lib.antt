@@ -1,2 +1,4 @@
--- Laws of the good cells.
+-- Laws of the good cells and of how a pair stands.
 mod GoodCells
+pub mod Registers
+mod Unique

@@ -18,8 +18,8 @@ pub fn copy_in(bytes: &mut [u8], at: usize, part: &[u8])
     }
 }
 
-// An entity of over 20 bytes and a reference of over 52 are cut; shorter ones are filled with zeros. The length is that
-// of the reference as it stands.
+// An entity of over 20 bytes and a reference of over 52 are cut; shorter ones are filled with zeros. The length byte is
+// that of the reference as cut to 52.
 pub fn pair_bytes(entity: &[u8], reference: &[u8]) -> [u8; 73]
     ensures { λ r. ⌜ r ≡ pairBytes (now (entity .entry)) (now (reference .entry)) ⌝ }
 {

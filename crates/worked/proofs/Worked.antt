@@ -4,7 +4,7 @@ use Rattle.text.specs.Class.{allOf}
 use Rattle.text.specs.Word.{startsWith, same}
 use Rattle.text.specs.Shape.{suits, shape}
 use Rattle.text.specs.Number.{digitOf, numeral, numberOf, twoDigits, fourDigits}
-use Rattle.calendar.specs.Day.{leap, monthLength, isDay}
+use Rattle.calendar.specs.Day.{leap, monthLength, yearLength, isDay, sum, dayNumber}
 use Rattle.calendar.specs.Dates.{dayWritten, dateOf}
 use Rattle.ident.specs.Written.{valueOf as valueOf′, digitsOf as digitsOf′, writtenDigits, decimal}
 use Rattle.ident.specs.Codes.{oddly, doubleAddDouble}
@@ -12,10 +12,11 @@ use Rattle.amount.specs.Decimal.{pointAt, whole, decimals, isDecimal, digitsOf,
 use Rattle.amount.specs.Signed.{isSigned, behindSign, signedValueOf}
 use Rattle.amount.specs.Price.{priceOf}
 use Rattle.amount.specs.Quantity.{quantityOf}
+use Rattle.facts.specs.Words.{tooOld}
 use Rattle.worked.specs.Examples.{Examples}
 
 pub examples : Examples
-unfolding valueOf′ digitsOf′ writtenDigits decimal allOf startsWith same suits shape digitOf numeral numberOf twoDigits fourDigits leap monthLength isDay dayWritten dateOf oddly doubleAddDouble pointAt whole decimals isDecimal digitsOf valueOf tagged isSigned behindSign signedValueOf priceOf quantityOf
+unfolding valueOf′ digitsOf′ writtenDigits decimal allOf startsWith same suits shape digitOf numeral numberOf twoDigits fourDigits leap monthLength yearLength isDay sum dayNumber dayWritten dateOf oddly doubleAddDouble pointAt whole decimals isDecimal digitsOf valueOf tagged isSigned behindSign signedValueOf priceOf quantityOf tooOld
 examples =
     record {
       lei-98 = refl;
@@ -32,4 +33,6 @@ examples =
       half = refl;
       yield = refl;
       no-yield = refl;
+      in-time = refl;
+      a-day-late = refl;
     }

@@ -11,6 +11,7 @@ use Rattle.amount.specs.Price.{priceOf}
 use Rattle.amount.specs.declared.Price.the-variants.{Yield, Malformed as NoPrice}
 use Rattle.amount.specs.Quantity.{quantityOf}
 use Rattle.amount.specs.declared.Quantity.the-variants.{Units, Malformed as NoQuantity}
+use Rattle.facts.specs.Words.{tooOld}
 
 pub record Examples : Type 0 where
   -- LEI check: three right, one wrong
@@ -33,3 +34,6 @@ pub record Examples : Type 0 where
   -- YLD: 1234567890.1 good, 12345678901.1 not
   pub yield : priceOf (ascii "YLD:1234567890.1") ≡ Yield (record { mantissa = pos 12345678901; places = 1 })
   pub no-yield : priceOf (ascii "YLD:12345678901.1") ≡ NoPrice
+  -- S 20250322: T 2020-03-22 free of 281, 2020-03-21 not
+  pub in-time : tooOld 20200322 20250322 ≡ false
+  pub a-day-late : tooOld 20200321 20250322 ≡ true

@@ -1,0 +1,2 @@
+-- What the C function's contract leaves open: nothing.
+mod Unique

@@ -1,0 +1,34 @@
+// One line judged, for a host that links C: what include/boanhetri.h declares.
+ghost use lib.ListN.{length};
+ghost use Rattle.facts.specs.Call.{call};
+ghost use Rattle.judge.specs.Outcome.{outcome, Judged};
+use verdict::Verdict;
+
+#[no_mangle]
+pub extern "C" fn boanhetri_judge(
+    line: &[u8],
+    lei: &[u8],
+    cty: &[u8],
+    ccy: &[u8],
+    ven: &[u8],
+    ins: &[u8],
+    register: &mut [u8],
+    day: u32,
+    micro: u64,
+    findings: &mut [u16],
+) -> Verdict
+    ensures { λ r. ⌜ Judged (outcome (call (now (line .entry)) (now (lei .entry)) (now (cty .entry)) (now (ccy .entry)) (now (ven .entry)) (now (ins .entry)) (now (register .entry)) day micro) (length (now (findings .entry)))) (now (findings .entry)) r (now (findings .exit)) (now (register .exit)) ⌝ }
+{
+    judge::judge(
+        line,
+        lei,
+        cty,
+        ccy,
+        ven,
+        ins,
+        register,
+        day,
+        micro,
+        findings,
+    )
+}

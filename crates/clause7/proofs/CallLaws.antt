@@ -1,0 +1,134 @@
+-- One call: the ways in which it can end, and what an accepted line does to the register.
+use mathlib.Core.Path.{_≡_, _∙_, refl, sym, ap}
+use mathlib.Core.Bool.{Bool, true, false, cond, not, _&&_, true≢false}
+use mathlib.Core.List.{List, [], _∷_}
+use Prim.Native.Nat.{ℕ, zero, suc, _+_, _≤_, _<_}
+use native.Mathlib.Omega.{arith}
+use borrow.Author.Tests.{not-true, not-false, eqb-true, eqb-false, eq-eqb, ne-eqb}
+use lib.Dec.{eqb, lit<}
+use lib.ListN.{length, getD}
+use Rattle.text.specs.FirstFrom.{firstFrom}
+use Rattle.text.proofs.Bools.{by-test, and-left, and-right}
+use Rattle.cells.specs.Cells.{cell}
+use Rattle.register.specs.Frame.{capacity, framed, full}
+use Rattle.register.specs.Rows.{rowsOf, firstRow, standing, standingAt}
+use Rattle.register.specs.Table.{putRow}
+use Rattle.register.specs.Written.{put}
+use Rattle.register.specs.declared.rows.Found.the-variants.{Nowhere}
+use Rattle.register.specs.declared.rows.Standing.{Standing}
+use Rattle.register.specs.declared.rows.Standing.the-variants.{Absent, Live, Cancelled}
+use Rattle.register.proofs.PairLaws.{Shaped, pair-length}
+use Rattle.register.proofs.RowLaws.{standing-found}
+use Rattle.register.proofs.PutLaws.{put-rows, put-framed, put-capacity, cancelled-put}
+use Rattle.facts.specs.Call.{Call}
+use Rattle.facts.specs.Words.{isLive, isAbsent, isCancelled}
+use Rattle.facts.specs.Rules.{isNew, isCxl, good, pairStands, standingOf, flags}
+use Rattle.judge.specs.Refusal.{allFlags, clean, early, notWhole, noRoom}
+use Rattle.judge.specs.Outcome.{pairOf, written, Outcome, refusedOutcome, judgedOutcome, outcome}
+use Rattle.judge.proofs.Cases.{out-early, out-ten, out-eleven, out-judged}
+use Rattle.clause7.specs.History.{reached}
+use Rattle.clause7.proofs.LineLaws.{no-flag, clean-4, clean-2, clean-shaped, clean-cxl}
+use Rattle.clause7.proofs.TableLaws.{valueOf}
+
+-- refused by 1 to 10, refused by 11, or judged
+pub data Way (c : Call) (room : ℕ) : Type 0 where
+  refused : (m : ℕ) → (m ≡ 0 → ⊥) → (m ≡ 11 → ⊥) → reached c room ≡ false → outcome c room ≡ refusedOutcome c m → Way c room
+  stuck : reached c room ≡ true → noRoom c ≡ true → outcome c room ≡ refusedOutcome c 11 → Way c room
+  heard : reached c room ≡ true → noRoom c ≡ false → outcome c room ≡ judgedOutcome c → Way c room
+
+first-small : (n : ℕ) (tests : List Bool) → firstFrom (suc n) tests ≤ n + length tests
+unfolding firstFrom
+first-small n [] = omega arith
+first-small n (true ∷ tests) = omega arith
+first-small n (false ∷ tests) = omega (arith, first-small (suc n) tests)
+
+module _ (c : Call) (room : ℕ) where
+  pub way : Way c room
+  way =
+      by-test
+      (eqb (firstFrom 1 (early c room)) 0)
+      (λ t.
+      let none : firstFrom 1 (early c room) ≡ 0 = eqb-true _ _ t in
+      by-test
+      (notWhole c)
+      (λ u. refused 10 (λ e. omega arith) (λ e. omega arith) (rw (t, u)) (out-ten c room none u))
+      (λ u.
+      by-test
+      (noRoom c)
+      (λ v. stuck (rw (t, u)) v (out-eleven c room none u v))
+      (λ v. heard (rw (t, u)) v (out-judged c room none u v))))
+      (λ t.
+      let some : firstFrom 1 (early c room) ≡ 0 → ⊥ = eqb-false _ _ t in
+      let few : firstFrom 1 (early c room) ≤ 9 = first-small 0 (early c room) in
+      refused (firstFrom 1 (early c room)) some (λ e. omega arith) (rw t) (out-early c room some))
+
+-- where a pair is nowhere it stands as absent
+module _ (version n : ℕ) (register pair : List ℕ) where
+  pub nowhere-absent : firstRow version n register pair ≡ Nowhere → standing version n register pair ≡ Absent
+  unfolding standingAt
+  nowhere-absent e = sym (standing-found version n register pair) ∙ ap (standingAt version n register) e
+
+live-only : (s : Standing) → isAbsent s ≡ false → isCancelled s ≡ false → isLive s ≡ true
+live-only Live a b = refl
+live-only Absent a b = absurd (true≢false a)
+live-only Cancelled a b = absurd (true≢false b)
+
+-- what is true of a line that is accepted
+pub record Sound (c : Call) : Type 0 where
+  pub shape : Shaped (cell (c .line) 4) (cell (c .line) 2)
+  -- its pair was live exactly if it is no NEW
+  pub flips : isLive (standingOf c) ≡ not (isNew (c .line))
+  -- and where the pair has no row there is one left
+  pub roomy : isAbsent (standingOf c) ≡ true → full 0 (c .register) ≡ false
+
+module _ (c : Call) (clear : clean c ≡ true) (room : noRoom c ≡ false) where
+  not-live : isNew (c .line) ≡ true → isLive (standingOf c) ≡ false
+  unfolding allFlags flags
+  not-live t = rw (t, clean-4 c clear, clean-2 c clear) at (no-flag c clear 0 (lit< tt))
+
+  live : isNew (c .line) ≡ false → isLive (standingOf c) ≡ true
+  unfolding allFlags flags
+  live t =
+      live-only (standingOf c)
+      (rw (clean-cxl c clear t, clean-4 c clear, clean-2 c clear) at (no-flag c clear 1 (lit< tt)))
+      (rw (clean-cxl c clear t, clean-4 c clear, clean-2 c clear) at (no-flag c clear 2 (lit< tt)))
+
+  pub sound : Sound c
+  unfolding noRoom
+  sound =
+      record {
+        shape = clean-shaped c clear;
+        flips = by-test (isNew (c .line)) (λ t. not-live t ∙ rw t) (λ t. live t ∙ rw t);
+        roomy = λ a.
+            by-test
+            (isNew (c .line))
+            (λ t. rw (clear, t, a) at room)
+            (λ t. absurd (absent-live (standingOf c) a (live t)));
+      }
+    where
+      absent-live : (s : Standing) → isAbsent s ≡ true → isLive s ≡ true → ⊥
+      absent-live Absent a l = true≢false (sym l)
+      absent-live Live a l = true≢false (sym a)
+      absent-live Cancelled a l = true≢false (sym a)
+
+-- an accepted line puts its pair's row
+module _ (c : Call) (s : Sound c) where
+  absent : firstRow 1 0 (c .register) (pairOf (c .line)) ≡ Nowhere → standingOf c ≡ Absent
+  unfolding pairStands
+  absent e = nowhere-absent 1 0 (c .register) (pairOf (c .line)) e
+
+  pub written-is :
+      written (c .line) (c .register)
+      ≡ put 1 0 (c .register) (firstRow 1 0 (c .register) (pairOf (c .line))) (pairOf (c .line)) (valueOf [] (c .line))
+  unfolding written
+  written-is =
+      by-test
+      (isNew (c .line))
+      (λ t. rw t)
+      (λ t.
+      rw t
+      (cancelled-put 1 0 [] (c .register) (pairOf (c .line)) (firstRow 1 0 (c .register) (pairOf (c .line)))
+      (λ e. true≢false (sym (sym (ap isLive (absent e)) ∙ s .flips ∙ rw t)))))
+
+  pub no-row-room : firstRow 1 0 (c .register) (pairOf (c .line)) ≡ Nowhere → full 0 (c .register) ≡ false
+  no-row-room e = s .roomy (ap isAbsent (absent e))

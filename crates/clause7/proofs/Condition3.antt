@@ -1,0 +1,204 @@
+-- Condition 3, by induction over the run: the used rows are those that the history leaves.
+use mathlib.Core.Path.{_≡_, _∙_, refl, sym, ap, subst}
+use mathlib.Core.Bool.{Bool, true, false, cond, not, _&&_, true≢false}
+use mathlib.Core.List.{List, [], _∷_}
+use Prim.Native.Nat.{ℕ, zero, suc, _+_, _<_}
+use native.Mathlib.Omega.{arith}
+use borrow.Author.Tests.{not-true, eqb-true, eq-eqb, ne-eqb}
+use lib.Dec.{eqb, lit<}
+use lib.ListN.{length, getD, take, drop}
+use lib.Seq.{take-append-seam}
+use Rattle.text.proofs.Bools.{by-test, and-left, and-right}
+use Rattle.cells.specs.Cells.{cell}
+use Rattle.forms.specs.Findings.{statusOf}
+use Rattle.register.specs.Frame.{used, capacity, framed, full}
+use Rattle.register.specs.Rows.{rowsIn, rowsOf, look, standing, standsAs}
+use Rattle.register.proofs.PairLaws.{Shaped}
+use Rattle.register.proofs.RowLaws.{rows-counted}
+use Rattle.facts.specs.Call.{Call}
+use Rattle.facts.specs.Words.{isLive, isAbsent, isCancelled}
+use Rattle.facts.specs.Rules.{Rule, rule, OnNew, OnCxl, rules, given, isNew, isCxl, good, pairStands, standingOf, flags}
+use Rattle.verdict.specs.declared.Verdict.{Verdict}
+use Rattle.verdict.specs.Codes.{codes, ruleCodes, codeCount}
+use Rattle.verdict.specs.Verdict.{bit, codesFound, verdictOf, refusedBy}
+use Rattle.verdict.specs.Findings.{over}
+use Rattle.verdict.specs.Counted.{times}
+use Rattle.verdict.proofs.OrderLaws.{pick-once}
+use Rattle.verdict.proofs.Promises.{codes-rise, code-count}
+use Rattle.judge.specs.Refusal.{allFlags, clean, noRoom}
+use Rattle.judge.specs.Outcome.{pairOf, written, Outcome, refusedOutcome, judgedOutcome, outcome, Judged}
+use Rattle.clause7.specs.History.{Answered, accepted, Pair, pairIn, samePair, Last, Never, New, Cancelling, ever, wasNew, wasCxl, lastAccepted, pairsAccepted, Empty, Run, start, next, shaped, bytesOf, Stands, reached, listed, Follows, Condition3}
+use Rattle.clause7.proofs.LineLaws.{Known, new-known, cxl-known, good-shaped, no-flag, clean-shaped}
+use Rattle.clause7.proofs.TableLaws.{rowsFor, AllShaped, none, more, stateFor, live-is, absent-is, cancelled-is, look-last, count-last, length-last, shaped-is, ever-shaped}
+use Rattle.clause7.proofs.CallLaws.{Way, refused, stuck, heard, way, Sound, sound, written-is, no-row-room}
+use Rattle.clause7.proofs.Kept.{Kept, kept-start, stands-as, used-is, full-is, kept-same, kept-put}
+
+-- a register of version 1
+abbrev Kept₁ : ℕ → List Answered → List ℕ → Type 0
+Kept₁ c history register = Kept 1 0 [] c history register
+
+module _ {c : ℕ} {history : List Answered} {register : List ℕ} (k : Kept₁ c history register) where
+  stand : Stands history register
+  stand =
+      record {
+        one-row = λ p e. rw (k .rows) (count-last [] history (k .shapes) p (shaped-is p e));
+        of-shape = ever-shaped history (k .shapes);
+        no-more = used-is 1 0 [] k;
+        live = λ p e. ap isLive (stands-as 1 0 [] k p (shaped-is p e)) ∙ live-is (lastAccepted history p);
+      }
+
+module _ (line : List ℕ) where
+  pub refused-not : (verdict : Verdict) (m : ℕ) → (m ≡ 0 → ⊥) → verdict ≡ refusedBy m → accepted (record { line = line; verdict = verdict }) ≡ false
+  unfolding refusedBy
+  refused-not verdict m h e = ap (λ (v : Verdict). accepted (record { line = line; verdict = v })) e ∙ rw (ne-eqb m 0 h)
+
+  pub judged-clean : (verdict : Verdict) (call : Call) → verdict ≡ verdictOf (allFlags call) → accepted (record { line = line; verdict = verdict }) ≡ clean call
+  unfolding verdictOf clean
+  judged-clean verdict call e = ap (λ (v : Verdict). accepted (record { line = line; verdict = v })) e
+
+module _ {c : ℕ} {history : List Answered} (call : Call) {before findings left : List ℕ} {verdict : Verdict} (k : Kept₁ c history (call .register))
+    (j : Judged (outcome call (length before)) before verdict findings left) where
+  abbrev this : Answered
+  this = record { line = call .line; verdict = verdict }
+
+  abbrev After : List ℕ → Type 0
+  After register = Kept₁ c (this ∷ history) register
+
+  stays : accepted this ≡ false → left ≡ call .register → After left
+  stays e r = subst (λ (x : List ℕ). After x) (sym r) (kept-same 1 0 [] k this e)
+
+  refusal-kept : (m : ℕ) → (m ≡ 0 → ⊥) → outcome call (length before) ≡ refusedOutcome call m → After left
+  refusal-kept m h o =
+      stays (refused-not (call .line) verdict m h (j .says ∙ ap (λ (x : Outcome). x .verdict) o)) (j .keeps ∙ ap (λ (x : Outcome). x .register) o)
+
+  kept-way : Way call (length before) → After left
+  kept-way (refused m h g r o) = refusal-kept m h o
+  kept-way (stuck r t o) = refusal-kept 11 (λ e. omega arith) o
+  kept-way (heard r t o) =
+      let says : verdict ≡ verdictOf (allFlags call) = j .says ∙ ap (λ (x : Outcome). x .verdict) o in
+      let keeps : left ≡ cond (clean call) (written (call .line) (call .register)) (call .register) = j .keeps ∙ ap (λ (x : Outcome). x .register) o in
+      by-test
+      (clean call)
+      (λ e.
+      let s : Sound call = sound call e t in
+      subst (λ (x : List ℕ). After x) (sym (keeps ∙ rw e (written-is call s))) (kept-put 1 0 [] k this (judged-clean (call .line) verdict call says ∙ e) (s .shape) refl (no-row-room call s)))
+      (λ e. stays (judged-clean (call .line) verdict call says ∙ e) (keeps ∙ rw e))
+
+  kept-next : After left
+  kept-next = kept-way (way call (length before))
+
+pub kept : {c : ℕ} {history : List Answered} {register : List ℕ} → Run c history register → Kept₁ c history register
+kept (start e) = kept-start 1 0 [] (e .framed-one) (e .none-used) (e .room)
+kept (next call run j) = kept-next call (kept run) j
+
+room-clean : (call : Call) → noRoom call ≡ true → clean call ≡ true
+unfolding noRoom
+room-clean call t = and-left (clean call) (isNew (call .line) && (isAbsent (standingOf call) && full 0 (call .register))) t
+
+-- what a call lists of a rule: its code once if the call reaches the rules and the rule gives it
+module _ (call : Call) {before findings left : List ℕ} {verdict : Verdict} (j : Judged (outcome call (length before)) before verdict findings left)
+    (i code : ℕ) (r : Rule) (at : getD codes i 0 ≡ code) (within : i < codeCount) (flag : getD (allFlags call) i false ≡ given call r) where
+  none-listed : (m : ℕ) → outcome call (length before) ≡ refusedOutcome call m → listed code verdict findings ≡ 0
+  unfolding refusedBy times
+  none-listed m o = ap (λ (v : Verdict). listed code v findings) (j .says ∙ ap (λ (x : Outcome). x .verdict) o)
+
+  all-listed : outcome call (length before) ≡ judgedOutcome call → listed code verdict findings ≡ bit (given call r)
+  unfolding verdictOf
+  all-listed o =
+      let found : List ℕ = codesFound (allFlags call) in
+      let says : verdict ≡ verdictOf (allFlags call) = j .says ∙ ap (λ (x : Outcome). x .verdict) o in
+      let lists : findings ≡ over found before = j .lists ∙ ap (λ (x : Outcome). over (x .listed) before) o in
+      (λ i. listed code (says i) (lists i))
+      ∙ ap (times code) (take-append-seam found (drop (length found) before))
+      ∙ ap (λ n. times n found) (sym at)
+      ∙ pick-once 0 codes (allFlags call) i codes-rise (omega (arith, code-count))
+      ∙ ap bit flag
+
+  rule-way : Way call (length before) → listed code verdict findings ≡ bit (reached call (length before) && given call r)
+  rule-way (refused m h g e o) = none-listed m o ∙ rw e
+  rule-way (stuck e t o) = none-listed 11 o ∙ sym (rw e (ap bit (sym flag ∙ no-flag call (room-clean call t) i within)))
+  rule-way (heard e t o) = all-listed o ∙ rw e
+
+  rule-listed : listed code verdict findings ≡ bit (reached call (length before) && given call r)
+  rule-listed = rule-way (way call (length before))
+
+-- the three rules of the pair
+abbrev rule023 : Rule
+rule023 = rule 23 OnNew (4 ∷ 2 ∷ []) (λ c. isLive (standingOf c))
+
+abbrev rule024 : Rule
+rule024 = rule 24 OnCxl (4 ∷ 2 ∷ []) (λ c. isAbsent (standingOf c))
+
+abbrev rule025 : Rule
+rule025 = rule 25 OnCxl (4 ∷ 2 ∷ []) (λ c. isCancelled (standingOf c))
+
+guarded : (g x y : Bool) → (g ≡ true → x ≡ y) → (g && x) ≡ (g && y)
+guarded true x y h = h refl
+guarded false x y h = refl
+
+-- what the next call answers
+module _ {c : ℕ} {history : List Answered} (call : Call) {before findings left : List ℕ} {verdict : Verdict} (k : Kept₁ c history (call .register))
+    (j : Judged (outcome call (length before)) before verdict findings left) where
+  abbrev last : Last
+  last = lastAccepted history (pairIn (call .line))
+
+  stands-last : Shaped (cell (call .line) 4) (cell (call .line) 2) → standingOf call ≡ stateFor last
+  unfolding pairStands
+  stands-last s = stands-as 1 0 [] k (pairIn (call .line)) s
+
+  -- of a rule that is judged for a status and reads cells 4 and 2
+  by-pair : (on : Bool) → (on ≡ true → Known (statusOf (cell (call .line) 1))) → (on && good (call .line) 4 && good (call .line) 2) ≡ true → standingOf call ≡ stateFor last
+  by-pair on known e =
+      let two : (on && good (call .line) 4) ≡ true = and-left (on && good (call .line) 4) (good (call .line) 2) e in
+      stands-last
+      (good-shaped (call .line) (known (and-left on (good (call .line) 4) two)) (and-right on (good (call .line) 4) two)
+      (and-right (on && good (call .line) 4) (good (call .line) 2) e))
+
+  abbrev line : List ℕ
+  line = call .line
+
+  is-023 : given call rule023 ≡ (isNew line && good line 4 && good line 2 && wasNew last)
+  is-023 =
+      guarded (isNew line && good line 4 && good line 2) (isLive (standingOf call)) (wasNew last)
+      (λ e. ap isLive (by-pair (isNew line) (new-known line) e) ∙ live-is last)
+
+  is-024 : given call rule024 ≡ (isCxl line && good line 4 && good line 2 && not (ever last))
+  is-024 =
+      guarded (isCxl line && good line 4 && good line 2) (isAbsent (standingOf call)) (not (ever last))
+      (λ e. ap isAbsent (by-pair (isCxl line) (cxl-known line) e) ∙ absent-is last)
+
+  is-025 : given call rule025 ≡ (isCxl line && good line 4 && good line 2 && wasCxl last)
+  is-025 =
+      guarded (isCxl line && good line 4 && good line 2) (isCancelled (standingOf call)) (wasCxl last)
+      (λ e. ap isCancelled (by-pair (isCxl line) (cxl-known line) e) ∙ cancelled-is last)
+
+  no-room-is : noRoom call ≡ (clean call && (isNew line && (not (ever last) && eqb (pairsAccepted history) c)))
+  unfolding noRoom
+  no-room-is =
+      guarded (clean call) (isNew line && (isAbsent (standingOf call) && full 0 (call .register))) (isNew line && (not (ever last) && eqb (pairsAccepted history) c))
+      (λ e i. isNew line && ((ap isAbsent (stands-last (clean-shaped call e)) ∙ absent-is last) i && full-is 1 0 [] k i))
+
+  eleven-way : Way call (length before) → eqb (verdict .answer) 11 ≡ (reached call (length before) && noRoom call)
+  unfolding refusedBy verdictOf
+  eleven-way (refused m h g e o) =
+      ap (λ (v : Verdict). eqb (v .answer) 11) (j .says ∙ ap (λ (x : Outcome). x .verdict) o) ∙ ne-eqb m 11 g ∙ rw e
+  eleven-way (stuck e t o) = ap (λ (v : Verdict). eqb (v .answer) 11) (j .says ∙ ap (λ (x : Outcome). x .verdict) o) ∙ rw (e, t)
+  eleven-way (heard e t o) = ap (λ (v : Verdict). eqb (v .answer) 11) (j .says ∙ ap (λ (x : Outcome). x .verdict) o) ∙ rw (e, t)
+
+  follow : Follows c history call (length before) verdict findings
+  unfolding codes ruleCodes allFlags flags
+  follow =
+      let reach : Bool = reached call (length before) in
+      record {
+        con023 = rule-listed call j 0 23 rule023 refl (lit< tt) refl ∙ ap (λ b. bit (reach && b)) is-023;
+        con024 = rule-listed call j 1 24 rule024 refl (lit< tt) refl ∙ ap (λ b. bit (reach && b)) is-024;
+        con025 = rule-listed call j 2 25 rule025 refl (lit< tt) refl ∙ ap (λ b. bit (reach && b)) is-025;
+        refusal11 = eleven-way (way call (length before)) ∙ ap (λ b. reach && b) no-room-is;
+      }
+
+pub condition3 : {c : ℕ} {history : List Answered} {register : List ℕ} → Run c history register → Condition3 c history register
+condition3 {c} {history} {register} run =
+    record {
+      stands = stand (kept run);
+      follows = λ call e j. follow call (subst (λ (r : List ℕ). Kept₁ c history r) (sym e) (kept run)) j;
+    }

@@ -1,0 +1,7 @@
+-- Condition 3, and that it bites.
+mod LineLaws
+mod TableLaws
+mod Kept
+mod CallLaws
+pub mod Condition3
+pub mod Teeth

@@ -1,0 +1,151 @@
+-- Condition 3: from an empty register that only the checker writes, over any sequence of lines, each pair of executing entity
+-- and reference ever accepted stands in exactly one row, no other pair does, and the row is live exactly if the pair's last
+-- accepted line was NEW. CON-023, 024, 025 and refusal 11 follow that history.
+use Prim.Native.Nat.{ℕ, _+_}
+use mathlib.Core.Path.{_≡_}
+use mathlib.Core.Bool.{Bool, true, false, cond, not, _&&_}
+use mathlib.Core.List.{List, [], _∷_}
+use lib.Dec.{eqb, leb}
+use lib.ListN.{length, take}
+use Rattle.text.specs.FirstFrom.{firstFrom}
+use Rattle.text.specs.Word.{same}
+use Rattle.cells.specs.Cells.{cell}
+use Rattle.register.specs.Frame.{used, capacity, framed}
+use Rattle.register.specs.Pair.{pairBytes}
+use Rattle.register.specs.Rows.{rowsOf, standing}
+use Rattle.register.specs.Table.{rowsWith}
+use Rattle.facts.specs.Call.{Call}
+use Rattle.facts.specs.Words.{isLive}
+use Rattle.facts.specs.Rules.{isNew, isCxl, good}
+use Rattle.verdict.specs.declared.Verdict.{Verdict}
+use Rattle.verdict.specs.Verdict.{bit}
+use Rattle.verdict.specs.Counted.{times}
+use Rattle.judge.specs.Refusal.{clean, early, notWhole}
+use Rattle.judge.specs.Outcome.{outcome, Judged}
+
+-- The history: lines with the verdicts that they got, the latest first. Nothing here knows of a register.
+pub record Answered : Type 0 where
+  pub line : List ℕ
+  pub verdict : Verdict
+
+-- accepted: answer 0 and n = 0
+abbrev pub accepted : Answered → Bool
+accepted a = eqb (a .verdict .answer) 0 && eqb (a .verdict .count) 0
+
+-- a pair: executing entity and reference, cells 4 and 2
+pub record Pair : Type 0 where
+  pub entity : List ℕ
+  pub reference : List ℕ
+
+abbrev pub pairIn : List ℕ → Pair
+pairIn line = record { entity = cell line 4; reference = cell line 2 }
+
+abbrev pub samePair : Pair → Pair → Bool
+samePair p q = same (p .entity) (q .entity) && same (p .reference) (q .reference)
+
+-- what a pair's last accepted line was
+pub data Last : Type 0 where
+  Never : Last
+  New : Last
+  Cancelling : Last
+
+abbrev pub ever : Last → Bool
+ever Never = false
+ever New = true
+ever Cancelling = true
+
+abbrev pub wasNew : Last → Bool
+wasNew Never = false
+wasNew New = true
+wasNew Cancelling = false
+
+abbrev pub wasCxl : Last → Bool
+wasCxl Never = false
+wasCxl New = false
+wasCxl Cancelling = true
+
+-- an accepted line is NEW or CXL
+abbrev pub kindOf : List ℕ → Last
+kindOf line = cond (isNew line) New Cancelling
+
+unfoldable pub lastAccepted : List Answered → Pair → Last
+lastAccepted [] p = Never
+lastAccepted (a ∷ earlier) p = cond (accepted a && samePair p (pairIn (a .line))) (kindOf (a .line)) (lastAccepted earlier p)
+
+-- how many pairs were ever accepted
+unfoldable pub pairsAccepted : List Answered → ℕ
+pairsAccepted [] = 0
+pairsAccepted (a ∷ earlier) = bit (accepted a && not (ever (lastAccepted earlier (pairIn (a .line))))) + pairsAccepted earlier
+
+-- The register: well framed, with room for c rows, none used
+pub record Empty (c : ℕ) (register : List ℕ) : Type 0 where
+  pub framed-one : framed 1 0 register ≡ true
+  pub none-used : used register ≡ 0
+  pub room : capacity 0 register ≡ c
+
+-- A run: call after call, each with a line, lists, a moment and a findings buffer of its own, and the register that the call before
+-- it left; each leaves what the contract of `judge` says
+pub data Run (c : ℕ) : List Answered → List ℕ → Type 0 where
+  start : {register : List ℕ} → Empty c register → Run c [] register
+  next :
+      {history : List Answered} (call : Call) {before findings left : List ℕ} {verdict : Verdict} → Run c history (call .register)
+      → Judged (outcome call (length before)) before verdict findings left
+      → Run c (record { line = call .line; verdict = verdict } ∷ history) left
+
+-- entity of 20 bytes, reference of 1 to 52: the pairs that a register can hold
+abbrev pub shaped : Pair → Bool
+shaped p = eqb (length (p .entity)) 20 && leb 1 (length (p .reference)) && leb (length (p .reference)) 52
+
+abbrev pub bytesOf : Pair → List ℕ
+bytesOf p = pairBytes (p .entity) (p .reference)
+
+pub record Stands (history : List Answered) (register : List ℕ) : Type 0 where
+  -- each pair ever accepted stands in one used row, and no other pair does
+  pub one-row : (p : Pair) → shaped p ≡ true → rowsWith (rowsOf 0 register) (bytesOf p) ≡ bit (ever (lastAccepted history p))
+  pub of-shape : (p : Pair) → ever (lastAccepted history p) ≡ true → shaped p ≡ true
+  -- there are no other used rows
+  pub no-more : used register ≡ pairsAccepted history
+  -- the row is live exactly if the last accepted line of the pair was NEW
+  pub live : (p : Pair) → shaped p ≡ true → isLive (standing 1 0 register (bytesOf p)) ≡ wasNew (lastAccepted history p)
+
+-- none of refusals 1 to 10 applies
+abbrev pub reached : Call → ℕ → Bool
+reached call room = eqb (firstFrom 1 (early call room)) 0 && not (notWhole call)
+
+-- how often a code stands among the n findings of a call
+abbrev pub listed : ℕ → Verdict → List ℕ → ℕ
+listed code verdict findings = times code (take (verdict .count) findings)
+
+pub record Follows (c : ℕ) (history : List Answered) (call : Call) (room : ℕ) (verdict : Verdict) (findings : List ℕ) : Type 0 where
+  -- NEW, and the pair's last accepted line was NEW
+  pub con023 :
+      listed 23 verdict findings
+      ≡ bit
+      (reached call room
+      && (isNew (call .line) && good (call .line) 4 && good (call .line) 2 && wasNew (lastAccepted history (pairIn (call .line)))))
+  -- CXL, and the pair was never accepted
+  pub con024 :
+      listed 24 verdict findings
+      ≡ bit
+      (reached call room
+      && (isCxl (call .line) && good (call .line) 4 && good (call .line) 2 && not (ever (lastAccepted history (pairIn (call .line))))))
+  -- CXL, and the pair's last accepted line was CXL
+  pub con025 :
+      listed 25 verdict findings
+      ≡ bit
+      (reached call room
+      && (isCxl (call .line) && good (call .line) 4 && good (call .line) 2 && wasCxl (lastAccepted history (pairIn (call .line)))))
+  -- no rule or form objects, NEW, the pair was never accepted, and c pairs were
+  pub refusal11 :
+      eqb (verdict .answer) 11
+      ≡ (reached call room
+      && (clean call
+      && (isNew (call .line) && (not (ever (lastAccepted history (pairIn (call .line)))) && eqb (pairsAccepted history) c))))
+
+-- The condition, of any run so far: what the register shows, and what the next call answers, whatever it gets
+pub record Condition3 (c : ℕ) (history : List Answered) (register : List ℕ) : Type 0 where
+  pub stands : Stands history register
+  pub follows :
+      (call : Call) → call .register ≡ register → {before findings left : List ℕ} {verdict : Verdict}
+      → Judged (outcome call (length before)) before verdict findings left
+      → Follows c history call (length before) verdict findings

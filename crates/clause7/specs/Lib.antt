@@ -1,0 +1,2 @@
+-- Condition 3 over any sequence of calls.
+pub mod History

@@ -1,0 +1,2 @@
+-- That the contract leaves one answer.
+mod Unique

@@ -1,0 +1,111 @@
+/*
+ * Boanhetri: one transaction report line of MiFIR Article 26, judged.
+ *
+ * Link with libcapi.a, for x86-64 Linux. Of the C library it uses memcpy and memset alone.
+ *
+ * What the function does is proved of its source, for every input that keeps the duties below. Nothing proves this header:
+ * it is written by hand, and tests/c holds it to the library.
+ */
+#ifndef BOANHETRI_H
+#define BOANHETRI_H
+
+#include <stddef.h>
+#include <stdint.h>
+
+#ifdef __cplusplus
+extern "C" {
+#endif
+
+/* 72 rules and 65 forms of cells: the entries that a findings buffer must have, and the bits in use of `words`. */
+#define BOANHETRI_CODES 137
+
+/* `answer`: why a call was refused, or that the line was judged. They are checked in this order, and the first that
+   applies is the answer. */
+enum boanhetri_answer {
+    BOANHETRI_JUDGED = 0,
+    /* A list is under 9 bytes, has another mark or version, or is not 9 bytes and its count of whole rows long. */
+    BOANHETRI_LEI_LIST = 1,
+    BOANHETRI_CTY_LIST = 2,
+    BOANHETRI_CCY_LIST = 3,
+    BOANHETRI_VEN_LIST = 4,
+    BOANHETRI_INS_LIST = 5,
+    /* The register is under 9 bytes, has another mark or version, or says that more rows are used than fit in it. */
+    BOANHETRI_REGISTER = 6,
+    /* `day` is no real date in 1900 to 9999, or `micro` is over 86399999999. */
+    BOANHETRI_MOMENT = 7,
+    /* The findings buffer has under 137 entries. */
+    BOANHETRI_FINDINGS = 8,
+    /* The line is over 4096 bytes long. */
+    BOANHETRI_LINE_LENGTH = 9,
+    /* The line has not exactly 65 cells, which is 64 bars. */
+    BOANHETRI_CELLS = 10,
+    /* The line is a NEW one with no finding, its pair is not in the register, and every row that fits is used. With a
+       larger register the same call is answered 0. */
+    BOANHETRI_REGISTER_FULL = 11
+};
+
+struct boanhetri_verdict {
+    /* One of the above. Where it is not 0, `count` and `words` are 0, and no byte of the register or the findings buffer
+       has changed. */
+    uint16_t answer;
+    /* How many findings the line has. 0 with answer 0: the line is accepted. */
+    uint16_t count;
+    /* One bit for each of the 137 codes in rising order, from the lowest bit of words[0] on: 023 is the lowest bit of
+       words[0], 1065 is bit 8 of words[2]. `count` is how many are set. */
+    uint64_t words[3];
+};
+
+/*
+ * Judges one line.
+ *
+ * Each run of bytes is a pointer and, after it, its length: in bytes, but for `findings`, where it is in entries.
+ *
+ *   line      the line, without its line end
+ *   lei       the list of legal entities:  mark LEI, rows of 30 bytes
+ *   cty       the list of countries:       mark CTY, rows of 10
+ *   ccy       the list of currencies:      mark CCY, rows of 12
+ *   ven       the list of venues:          mark VEN, rows of 13
+ *   ins       the list of instruments:     mark INS, rows of 26
+ *             Each list: 3 bytes of mark, 16 bits of version (1), 32 bits of row count, rows. Numbers are little-endian.
+ *   reg       the register of pairs:       mark TRN, rows of 74
+ *             3 bytes of mark, 16 bits of version (1), 32 bits of rows used, rows. As many rows fit as are whole behind the
+ *             9 bytes of head. To begin with, set the head with 0 rows used; the bytes behind it may hold anything.
+ *   day       the day of submission, as the number yyyymmdd
+ *   micro     the microsecond of that day, 0 to 86399999999
+ *   findings  room for at least 137 codes
+ *
+ * What a call leaves, with answer 0:
+ *   findings  the first `count` entries are the codes found, rising, each once; later entries stay as they were.
+ *   reg       where `count` is 0, a NEW line has its pair live, in its old row or the next one, and a CXL line has it
+ *             cancelled; no other byte changes. Where `count` is over 0, no byte changes.
+ *
+ * What the caller owes:
+ *   - Every pointer is good for its length until the call returns: to read, and for `reg` and `findings` also to write.
+ *     `findings` is aligned for uint16_t.
+ *   - Neither `reg` nor `findings` overlaps the other or anything else that is passed. What is only read may overlap.
+ *   - Nothing else writes to any of it, and nothing else reads `reg` or `findings`, until the call returns.
+ *   - A length of 0 is allowed everywhere, and nothing is then read or written through that pointer, which can be any but
+ *     NULL.
+ *   The bytes themselves are free: whatever they hold, the call returns, and within these lengths.
+ *
+ * Nothing is kept between calls, nothing is allocated, and neither a file nor a clock is read: the same input has the same
+ * result. The function is reentrant; calls with different registers and findings buffers may run at the same time, also
+ * with the same line and lists.
+ */
+struct boanhetri_verdict boanhetri_judge(
+    const uint8_t *line, size_t line_len,
+    const uint8_t *lei, size_t lei_len,
+    const uint8_t *cty, size_t cty_len,
+    const uint8_t *ccy, size_t ccy_len,
+    const uint8_t *ven, size_t ven_len,
+    const uint8_t *ins, size_t ins_len,
+    uint8_t *reg, size_t reg_len,
+    uint32_t day,
+    uint64_t micro,
+    uint16_t *findings, size_t findings_len);
+
+#ifdef __cplusplus
+}
+#endif
+
+#endif

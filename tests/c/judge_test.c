@@ -1,0 +1,495 @@
+/*
+ * Calls the library as a host does, through include/boanhetri.h: what is answered, and every byte that is lent, before and
+ * after. A line a group, and `ok`; the exit status is 1 where something is not as it must be.
+ */
+#include "boanhetri.h"
+
+/* Declared here, so that the test builds also with a compiler that has no C library's headers. */
+int printf(const char *format, ...);
+int memcmp(const void *a, const void *b, size_t n);
+void *memcpy(void *to, const void *from, size_t n);
+void *memset(void *to, int byte, size_t n);
+size_t strlen(const char *s);
+
+_Static_assert(sizeof(struct boanhetri_verdict) == 32, "a verdict is two 16-bit numbers and three 64-bit words");
+
+/* Two LEIs with right check digits. */
+#define ENTITY "00000000000000000098"
+#define OTHER "00000000000000000195"
+
+enum { LEI, CTY, CCY, VEN, INS, LISTS };
+
+static const char *const marks[LISTS] = {"LEI", "CTY", "CCY", "VEN", "INS"};
+
+/* ---- what a call gets */
+
+struct bytes {
+    uint8_t at[5000];
+    size_t len;
+};
+
+struct call {
+    struct bytes line;
+    struct bytes list[LISTS];
+    struct bytes reg;
+    uint32_t day;
+    uint64_t micro;
+    uint16_t findings[BOANHETRI_CODES + 3];
+    size_t room;
+};
+
+/* A code, and its place among the bits of the three words. */
+struct finding {
+    uint16_t code;
+    uint16_t bit;
+};
+
+static void add(struct bytes *b, const void *part, size_t n) {
+    memcpy(b->at + b->len, part, n);
+    b->len += n;
+}
+
+static void add_text(struct bytes *b, const char *text) { add(b, text, strlen(text)); }
+
+static void add_number(struct bytes *b, uint64_t number, size_t width) {
+    for (size_t i = 0; i < width; i++) {
+        b->at[b->len++] = (uint8_t)(number >> (8 * i));
+    }
+}
+
+/* A head with row count 0; bytes past the length are set too, so that a test can lengthen by one. */
+static void begin(struct bytes *b, const char *mark) {
+    memset(b->at, 0xA5, sizeof b->at);
+    b->len = 0;
+    add_text(b, mark);
+    add_number(b, 1, 2);
+    add_number(b, 0, 4);
+}
+
+static void days(struct bytes *list) {
+    add_number(list, 20180103, 4);
+    add_number(list, 99991231, 4);
+    list->at[5]++;
+}
+
+static void lei_row(struct bytes *list, const char *key) {
+    add_text(list, key);
+    add_number(list, 1, 1);
+    add_number(list, 1, 1);
+    days(list);
+}
+
+static void lists(struct call *c) {
+    for (size_t i = 0; i < LISTS; i++) {
+        begin(&c->list[i], marks[i]);
+    }
+    lei_row(&c->list[LEI], ENTITY);
+    lei_row(&c->list[LEI], OTHER);
+    add_text(&c->list[CTY], "DE");
+    days(&c->list[CTY]);
+    add_text(&c->list[CCY], "EUR\1");
+    days(&c->list[CCY]);
+    add_text(&c->list[VEN], "XAAA\1");
+    days(&c->list[VEN]);
+    add_text(&c->list[INS], "AA0000000006ESVUFR");
+    days(&c->list[INS]);
+}
+
+/* `cells[f]` is cell f; those that are not given are blank. */
+static void line_of(struct call *c, const char *const cells[66]) {
+    c->line.len = 0;
+    for (size_t f = 1; f <= 65; f++) {
+        if (f > 1) {
+            add_text(&c->line, "|");
+        }
+        if (cells[f]) {
+            add_text(&c->line, cells[f]);
+        }
+    }
+}
+
+static void new_line(struct call *c, const char *reference) {
+    const char *const cells[66] = {
+        [1] = "NEW", [2] = reference, [4] = ENTITY, [5] = "TRUE", [6] = ENTITY, [7] = "LEI:" ENTITY, [16] = "LEI:" OTHER,
+        [25] = "FALSE", [28] = "2025-03-21T09:30:00.5Z", [29] = "DEAL", [30] = "UNT:100", [33] = "MV:10.5", [34] = "EUR",
+        [36] = "XAAA", [37] = "DE", [41] = "AA0000000006", [57] = "NIDN:DE123", [59] = "NORE", [65] = "FALSE",
+    };
+    line_of(c, cells);
+}
+
+static void cxl_line(struct call *c, const char *reference) {
+    const char *const cells[66] = {[1] = "CXL", [2] = reference, [4] = ENTITY, [6] = ENTITY};
+    line_of(c, cells);
+}
+
+static void first_cell(struct call *c, const char *cell) {
+    const char *const cells[66] = {[1] = cell};
+    line_of(c, cells);
+}
+
+/* A register with that many rows, none used, of which the bytes are arbitrary. */
+static void empty_register(struct call *c, size_t rows) {
+    begin(&c->reg, "TRN");
+    c->reg.len += 74 * rows;
+}
+
+/* What the register must hold after one more row, or after the state of a row is set. */
+static void expect_row(struct bytes *reg, const char *reference) {
+    uint8_t *row = reg->at + 9 + 74 * reg->at[5];
+    memset(row, 0, 74);
+    memcpy(row, ENTITY, 20);
+    row[20] = (uint8_t)strlen(reference);
+    memcpy(row + 21, reference, strlen(reference));
+    row[73] = 1;
+    reg->at[5]++;
+}
+
+static void expect_state(struct bytes *reg, size_t row, uint8_t state) { reg->at[9 + 74 * row + 73] = state; }
+
+/* A call whose line is accepted. */
+static struct call good_call(void) {
+    struct call c;
+    lists(&c);
+    empty_register(&c, 2);
+    new_line(&c, "R1");
+    c.day = 20250322;
+    c.micro = 43200000000;
+    memset(c.findings, 0x5A, sizeof c.findings);
+    c.room = BOANHETRI_CODES + 3;
+    return c;
+}
+
+/* ---- what it must leave */
+
+static int failures;
+
+static void must(int holds, const char *group, const char *what) {
+    if (!holds) {
+        printf("FAILED %s: %s\n", group, what);
+        failures++;
+    }
+}
+
+static struct boanhetri_verdict judge(struct call *c) {
+    return boanhetri_judge(
+        c->line.at, c->line.len,
+        c->list[LEI].at, c->list[LEI].len,
+        c->list[CTY].at, c->list[CTY].len,
+        c->list[CCY].at, c->list[CCY].len,
+        c->list[VEN].at, c->list[VEN].len,
+        c->list[INS].at, c->list[INS].len,
+        c->reg.at, c->reg.len,
+        c->day,
+        c->micro,
+        c->findings, c->room);
+}
+
+static int same_bytes(const struct bytes *a, const struct bytes *b) {
+    return a->len == b->len && memcmp(a->at, b->at, sizeof a->at) == 0;
+}
+
+/* What no call changes. */
+static void must_keep_inputs(const struct call *before, const struct call *after, const char *group) {
+    must(same_bytes(&before->line, &after->line), group, "the line stays");
+    for (size_t i = 0; i < LISTS; i++) {
+        must(same_bytes(&before->list[i], &after->list[i]), group, "the lists stay");
+    }
+}
+
+/* Judges: the answer, the codes found, and the register, to the last byte, must be these. */
+static void must_leave(
+    struct call *c, uint16_t answer, const struct finding *codes, uint16_t count, const struct bytes *reg, const char *group) {
+    struct call before = *c;
+    uint64_t words[3] = {0, 0, 0};
+    for (size_t i = 0; i < count; i++) {
+        before.findings[i] = codes[i].code;
+        words[codes[i].bit / 64] |= (uint64_t)1 << (codes[i].bit % 64);
+    }
+    struct boanhetri_verdict v = judge(c);
+    if (v.answer != answer || v.count != count) {
+        printf("%s: answer %u, count %u; wanted %u, %u\n", group, v.answer, v.count, answer, count);
+    }
+    must(v.answer == answer, group, "answer");
+    must(v.count == count, group, "count");
+    must(memcmp(v.words, words, sizeof words) == 0, group, "words");
+    must(memcmp(c->findings, before.findings, sizeof before.findings) == 0, group, "findings");
+    must(same_bytes(&c->reg, reg), group, "register");
+    must_keep_inputs(&before, c, group);
+}
+
+static void must_refuse(struct call c, uint16_t number, const char *group) {
+    struct bytes reg = c.reg;
+    must_leave(&c, number, 0, 0, &reg, group);
+}
+
+static void must_accept(struct call *c, const struct bytes *reg, const char *group) { must_leave(c, 0, 0, 0, reg, group); }
+
+static void must_find(struct call *c, const struct finding *codes, uint16_t count, const char *group) {
+    struct bytes reg = c->reg;
+    must_leave(c, 0, codes, count, &reg, group);
+}
+
+/* ---- the groups */
+
+static void a_pair_lives(void) {
+    const char *group = "NEW, NEW again, CXL, CXL again, NEW in the same row";
+    static const struct finding live[1] = {{23, 0}};
+    static const struct finding cancelled[1] = {{25, 2}};
+    struct call c = good_call();
+    struct bytes reg = c.reg;
+    expect_row(&reg, "R1");
+    must_accept(&c, &reg, group);
+    must_find(&c, live, 1, group);
+    cxl_line(&c, "R1");
+    expect_state(&reg, 0, 2);
+    must_accept(&c, &reg, group);
+    must_find(&c, cancelled, 1, group);
+    new_line(&c, "R1");
+    expect_state(&reg, 0, 1);
+    must_accept(&c, &reg, group);
+    printf("%s\n", group);
+}
+
+static void a_register_fills(void) {
+    const char *group = "a full register: 11, and its own pairs go on";
+    struct call c = good_call();
+    struct bytes reg = c.reg;
+    expect_row(&reg, "R1");
+    must_accept(&c, &reg, group);
+    new_line(&c, "R2");
+    expect_row(&reg, "R2");
+    must_accept(&c, &reg, group);
+    new_line(&c, "R3");
+    must_refuse(c, 11, group);
+    cxl_line(&c, "R2");
+    expect_state(&reg, 1, 2);
+    must_accept(&c, &reg, group);
+    new_line(&c, "R3");
+    must_refuse(c, 11, group);
+    new_line(&c, "R2");
+    expect_state(&reg, 1, 1);
+    must_accept(&c, &reg, group);
+    empty_register(&c, 0);
+    must_refuse(c, 11, group);
+    printf("%s\n", group);
+}
+
+static void findings_are_listed(void) {
+    const char *group = "findings: bits, codes, later entries, register";
+    static const struct finding absent[1] = {{24, 1}};
+    static const struct finding absent_and_entity[2] = {{24, 1}, {60, 6}};
+    static const struct finding first[1] = {{1001, 72}};
+    struct call c = good_call();
+    cxl_line(&c, "R1");
+    must_find(&c, absent, 1, group);
+    begin(&c.list[LEI], "LEI");
+    must_find(&c, absent_and_entity, 2, group);
+    first_cell(&c, "x");
+    must_find(&c, first, 1, group);
+    /* every cell but the first is wrong, so the last bits and entries are in use */
+    struct finding most[65];
+    uint16_t count = 0;
+    const char *cells[66] = {[1] = "NEW"};
+    for (uint16_t f = 2; f <= 65; f++) {
+        cells[f] = "\x80";
+        most[count].code = (uint16_t)(1000 + f);
+        most[count++].bit = (uint16_t)(71 + f);
+    }
+    line_of(&c, cells);
+    must_find(&c, most, count, group);
+    printf("%s\n", group);
+}
+
+static void lists_are_framed(void) {
+    const char *group = "refusals 1 to 5: a byte too few, a byte too many, mark, version, count, under 9 bytes";
+    for (uint16_t i = 0; i < LISTS; i++) {
+        struct call c = good_call();
+        size_t len = c.list[i].len;
+        size_t short_of[] = {0, 1, 8, 9, len - 1, len + 1};
+        for (size_t k = 0; k < sizeof short_of / sizeof short_of[0]; k++) {
+            c.list[i].len = short_of[k];
+            must_refuse(c, i + 1, group);
+        }
+        c.list[i].len = len;
+        for (size_t at = 0; at < 9; at++) {
+            c.list[i].at[at]++;
+            must_refuse(c, i + 1, group);
+            c.list[i].at[at] -= 2;
+            must_refuse(c, i + 1, group);
+            c.list[i].at[at]++;
+        }
+        begin(&c.list[i], marks[i]);
+        c.list[i].len = 8;
+        must_refuse(c, i + 1, group);
+        c.list[i].len = 10;
+        must_refuse(c, i + 1, group);
+        c.list[i].len = 9;
+        c.room = 136;
+        must_refuse(c, 8, group);
+    }
+    printf("%s\n", group);
+}
+
+static void register_is_framed(void) {
+    const char *group = "refusal 6: a byte too few, mark, version, rows used; a byte too many is none";
+    struct call c = good_call();
+    struct bytes reg = c.reg;
+    expect_row(&reg, "R1");
+    for (size_t at = 0; at < 5; at++) {
+        struct call d = c;
+        d.reg.at[at]++;
+        must_refuse(d, 6, group);
+        d.reg.at[at] -= 2;
+        must_refuse(d, 6, group);
+    }
+    for (size_t len = 0; len < 9; len++) {
+        c.reg.len = len;
+        must_refuse(c, 6, group);
+    }
+    c.reg.len = reg.len;
+    c.reg.at[5] = 3;
+    must_refuse(c, 6, group);
+    c.reg.at[5] = 2;
+    c.reg.len--;
+    must_refuse(c, 6, group);
+    c.reg.at[5] = 0;
+    c.reg.at[8] = 1;
+    c.reg.len++;
+    must_refuse(c, 6, group);
+    c.reg.at[8] = 0;
+    c.reg.len++;
+    reg.len++;
+    must_accept(&c, &reg, group);
+    printf("%s\n", group);
+}
+
+static void moment_is_real(void) {
+    const char *group = "refusal 7: the first and last days and microseconds, and those beside them";
+    static const uint32_t unreal[] = {0, 18991231, 19000100, 19000229, 20250229, 20250431, 20251301, 20250022, 99991232, 100000101, 4294967295};
+    static const uint32_t real[] = {19000101, 20000229, 20250322, 99991231};
+    for (size_t i = 0; i < sizeof unreal / sizeof unreal[0]; i++) {
+        struct call c = good_call();
+        c.day = unreal[i];
+        must_refuse(c, 7, group);
+    }
+    for (size_t i = 0; i < sizeof real / sizeof real[0]; i++) {
+        struct call c = good_call();
+        c.day = real[i];
+        c.micro = 86399999999;
+        c.room = 136;
+        must_refuse(c, 8, group);
+        c.micro = 86400000000;
+        must_refuse(c, 7, group);
+        c.micro = ~(uint64_t)0;
+        must_refuse(c, 7, group);
+    }
+    printf("%s\n", group);
+}
+
+static void buffer_has_room(void) {
+    const char *group = "refusal 8: an entry too few; 137 are enough";
+    struct call c = good_call();
+    struct bytes reg = c.reg;
+    expect_row(&reg, "R1");
+    c.room = 0;
+    must_refuse(c, 8, group);
+    c.room = 136;
+    must_refuse(c, 8, group);
+    c.room = 137;
+    must_accept(&c, &reg, group);
+    printf("%s\n", group);
+}
+
+static void line_is_short(void) {
+    const char *group = "refusal 9: 4,097 bytes; 4,096 are read";
+    static const struct finding first[1] = {{1001, 72}};
+    struct call c = good_call();
+    first_cell(&c, "x");
+    while (c.line.len < 4096) {
+        add_text(&c.line, "x");
+    }
+    must_find(&c, first, 1, group);
+    add_text(&c.line, "x");
+    must_refuse(c, 9, group);
+    c.line.len = sizeof c.line.at;
+    must_refuse(c, 9, group);
+    printf("%s\n", group);
+}
+
+static void cells_are_65(void) {
+    const char *group = "refusal 10: a bar too few, a bar too many, an empty line";
+    struct call c = good_call();
+    add_text(&c.line, "|");
+    must_refuse(c, 10, group);
+    first_cell(&c, "");
+    c.line.len--;
+    must_refuse(c, 10, group);
+    c.line.len = 0;
+    must_refuse(c, 10, group);
+    printf("%s\n", group);
+}
+
+/* Everything is wrong at first, then one thing after the other is mended. */
+static void refusals_have_an_order(void) {
+    const char *group = "refusals 1 to 11 in their order";
+    struct call good = good_call();
+    struct call c = good;
+    for (size_t i = 0; i < LISTS; i++) {
+        c.list[i].len--;
+    }
+    c.reg.len = 8;
+    c.day = 20250229;
+    c.room = 136;
+    memset(c.line.at, 'x', sizeof c.line.at);
+    c.line.len = 4097;
+    for (uint16_t i = 0; i < LISTS; i++) {
+        must_refuse(c, i + 1, group);
+        c.list[i] = good.list[i];
+    }
+    must_refuse(c, 6, group);
+    empty_register(&c, 0);
+    must_refuse(c, 7, group);
+    c.day = good.day;
+    must_refuse(c, 8, group);
+    c.room = good.room;
+    must_refuse(c, 9, group);
+    c.line.len = 4096;
+    must_refuse(c, 10, group);
+    c.line = good.line;
+    must_refuse(c, 11, group);
+    c.reg = good.reg;
+    expect_row(&good.reg, "R1");
+    must_accept(&c, &good.reg, group);
+    printf("%s\n", group);
+}
+
+static void nothing_is_kept(void) {
+    const char *group = "nothing is kept between calls";
+    for (size_t i = 0; i < 2; i++) {
+        struct call c = good_call();
+        struct bytes reg = c.reg;
+        expect_row(&reg, "R1");
+        must_accept(&c, &reg, group);
+    }
+    printf("%s\n", group);
+}
+
+int main(void) {
+    a_pair_lives();
+    a_register_fills();
+    findings_are_listed();
+    lists_are_framed();
+    register_is_framed();
+    moment_is_real();
+    buffer_has_room();
+    line_is_short();
+    cells_are_65();
+    refusals_have_an_order();
+    nothing_is_kept();
+    if (failures) {
+        printf("%d failed\n", failures);
+        return 1;
+    }
+    printf("ok\n");
+    return 0;
+}
