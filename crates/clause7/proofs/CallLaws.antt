@@ -1,30 +1,29 @@
 -- One call: the ways in which it can end, and what an accepted line does to the register.
 use mathlib.Core.Path.{_≡_, _∙_, refl, sym, ap}
-use mathlib.Core.Bool.{Bool, true, false, cond, not, _&&_, true≢false}
+use mathlib.Core.Bool.{Bool, true, false, not, true≢false}
 use mathlib.Core.List.{List, [], _∷_}
-use Prim.Native.Nat.{ℕ, zero, suc, _+_, _≤_, _<_}
+use Prim.Native.Nat.{ℕ, suc, _+_, _≤_}
 use native.Mathlib.Omega.{arith}
-use borrow.Author.Tests.{not-true, not-false, eqb-true, eqb-false, eq-eqb, ne-eqb}
+use borrow.Author.Tests.{eqb-true, eqb-false}
 use lib.Dec.{eqb, lit<}
-use lib.ListN.{length, getD}
+use lib.ListN.{length}
 use Rattle.text.specs.FirstFrom.{firstFrom}
-use Rattle.text.proofs.Bools.{by-test, and-left, and-right}
+use Rattle.text.proofs.Bools.{by-test}
 use Rattle.cells.specs.Cells.{cell}
-use Rattle.register.specs.Frame.{capacity, framed, full}
-use Rattle.register.specs.Rows.{rowsOf, firstRow, standing, standingAt}
-use Rattle.register.specs.Table.{putRow}
+use Rattle.register.specs.Frame.{full}
+use Rattle.register.specs.Rows.{firstRow, standing, standingAt}
 use Rattle.register.specs.Written.{put}
 use Rattle.register.specs.declared.rows.Found.the-variants.{Nowhere}
 use Rattle.register.specs.declared.rows.Standing.{Standing}
 use Rattle.register.specs.declared.rows.Standing.the-variants.{Absent, Live, Cancelled}
-use Rattle.register.proofs.PairLaws.{Shaped, pair-length}
+use Rattle.register.proofs.PairLaws.{Shaped}
 use Rattle.register.proofs.RowLaws.{standing-found}
-use Rattle.register.proofs.PutLaws.{put-rows, put-framed, put-capacity, cancelled-put}
+use Rattle.register.proofs.PutLaws.{cancelled-put}
 use Rattle.facts.specs.Call.{Call}
 use Rattle.facts.specs.Words.{isLive, isAbsent, isCancelled}
-use Rattle.facts.specs.Rules.{isNew, isCxl, good, pairStands, standingOf, flags}
+use Rattle.facts.specs.Rules.{isNew, pairStands, standingOf, flags}
 use Rattle.judge.specs.Refusal.{allFlags, clean, early, notWhole, noRoom}
-use Rattle.judge.specs.Outcome.{pairOf, written, Outcome, refusedOutcome, judgedOutcome, outcome}
+use Rattle.judge.specs.Outcome.{pairOf, written, refusedOutcome, judgedOutcome, outcome}
 use Rattle.judge.proofs.Cases.{out-early, out-ten, out-eleven, out-judged}
 use Rattle.clause7.specs.History.{reached}
 use Rattle.clause7.proofs.LineLaws.{no-flag, clean-4, clean-2, clean-shaped, clean-cxl}

@@ -1,23 +1,21 @@
 -- Condition 3, by induction over the run: the used rows are those that the history leaves.
 use mathlib.Core.Path.{_≡_, _∙_, refl, sym, ap, subst}
-use mathlib.Core.Bool.{Bool, true, false, cond, not, _&&_, true≢false}
+use mathlib.Core.Bool.{Bool, true, false, cond, not, _&&_, _||_, true≢false}
 use mathlib.Core.List.{List, [], _∷_}
-use Prim.Native.Nat.{ℕ, zero, suc, _+_, _<_}
+use Prim.Native.Nat.{ℕ, _<_}
 use native.Mathlib.Omega.{arith}
-use borrow.Author.Tests.{not-true, eqb-true, eq-eqb, ne-eqb}
+use borrow.Author.Tests.{ne-eqb}
 use lib.Dec.{eqb, lit<}
-use lib.ListN.{length, getD, take, drop}
+use lib.ListN.{length, getD, drop}
 use lib.Seq.{take-append-seam}
 use Rattle.text.proofs.Bools.{by-test, and-left, and-right}
 use Rattle.cells.specs.Cells.{cell}
 use Rattle.forms.specs.Findings.{statusOf}
-use Rattle.register.specs.Frame.{used, capacity, framed, full}
-use Rattle.register.specs.Rows.{rowsIn, rowsOf, look, standing, standsAs}
+use Rattle.register.specs.Frame.{full}
 use Rattle.register.proofs.PairLaws.{Shaped}
-use Rattle.register.proofs.RowLaws.{rows-counted}
 use Rattle.facts.specs.Call.{Call}
 use Rattle.facts.specs.Words.{isLive, isAbsent, isCancelled}
-use Rattle.facts.specs.Rules.{Rule, rule, OnNew, OnCxl, rules, given, isNew, isCxl, good, pairStands, standingOf, flags}
+use Rattle.facts.specs.Rules.{Rule, rule, OnNew, OnCxl, given, isNew, isCxl, good, pairStands, standingOf, flags}
 use Rattle.verdict.specs.declared.Verdict.{Verdict}
 use Rattle.verdict.specs.Codes.{codes, ruleCodes, codeCount}
 use Rattle.verdict.specs.Verdict.{bit, codesFound, verdictOf, refusedBy}
@@ -26,10 +24,10 @@ use Rattle.verdict.specs.Counted.{times}
 use Rattle.verdict.proofs.OrderLaws.{pick-once}
 use Rattle.verdict.proofs.Promises.{codes-rise, code-count}
 use Rattle.judge.specs.Refusal.{allFlags, clean, noRoom}
-use Rattle.judge.specs.Outcome.{pairOf, written, Outcome, refusedOutcome, judgedOutcome, outcome, Judged}
-use Rattle.clause7.specs.History.{Answered, accepted, Pair, pairIn, samePair, Last, Never, New, Cancelling, ever, wasNew, wasCxl, lastAccepted, pairsAccepted, Empty, Run, start, next, shaped, bytesOf, Stands, reached, listed, Follows, Condition3}
-use Rattle.clause7.proofs.LineLaws.{Known, new-known, cxl-known, good-shaped, no-flag, clean-shaped}
-use Rattle.clause7.proofs.TableLaws.{rowsFor, AllShaped, none, more, stateFor, live-is, absent-is, cancelled-is, look-last, count-last, length-last, shaped-is, ever-shaped}
+use Rattle.judge.specs.Outcome.{written, Outcome, refusedOutcome, judgedOutcome, outcome, Judged}
+use Rattle.clause7.specs.History.{Answered, accepted, pairIn, Last, ever, wasNew, wasCxl, lastAccepted, pairsAccepted, Run, start, next, Stands, reached, listed, Follows, Condition3}
+use Rattle.clause7.proofs.LineLaws.{Known, new-known, cxl-known, good-shaped, no-flag, clean-shaped, clean-cxl}
+use Rattle.clause7.proofs.TableLaws.{stateFor, live-is, absent-is, cancelled-is, count-last, shaped-is, ever-shaped}
 use Rattle.clause7.proofs.CallLaws.{Way, refused, stuck, heard, way, Sound, sound, written-is, no-row-room}
 use Rattle.clause7.proofs.Kept.{Kept, kept-start, stands-as, used-is, full-is, kept-same, kept-put}
 
@@ -48,11 +46,11 @@ module _ {c : ℕ} {history : List Answered} {register : List ℕ} (k : Kept₁ 
       }
 
 module _ (line : List ℕ) where
-  pub refused-not : (verdict : Verdict) (m : ℕ) → (m ≡ 0 → ⊥) → verdict ≡ refusedBy m → accepted (record { line = line; verdict = verdict }) ≡ false
+  refused-not : (verdict : Verdict) (m : ℕ) → (m ≡ 0 → ⊥) → verdict ≡ refusedBy m → accepted (record { line = line; verdict = verdict }) ≡ false
   unfolding refusedBy
   refused-not verdict m h e = ap (λ (v : Verdict). accepted (record { line = line; verdict = v })) e ∙ rw (ne-eqb m 0 h)
 
-  pub judged-clean : (verdict : Verdict) (call : Call) → verdict ≡ verdictOf (allFlags call) → accepted (record { line = line; verdict = verdict }) ≡ clean call
+  judged-clean : (verdict : Verdict) (call : Call) → verdict ≡ verdictOf (allFlags call) → accepted (record { line = line; verdict = verdict }) ≡ clean call
   unfolding verdictOf clean
   judged-clean verdict call e = ap (λ (v : Verdict). accepted (record { line = line; verdict = v })) e
 
@@ -90,6 +88,22 @@ module _ {c : ℕ} {history : List Answered} (call : Call) {before findings left
 pub kept : {c : ℕ} {history : List Answered} {register : List ℕ} → Run c history register → Kept₁ c history register
 kept (start e) = kept-start 1 0 [] (e .framed-one) (e .none-used) (e .room)
 kept (next call run j) = kept-next call (kept run) j
+
+-- an accepted line is clean, and its row had room
+module _ (call : Call) {before findings left : List ℕ} {verdict : Verdict} (j : Judged (outcome call (length before)) before verdict findings left)
+    (is-accepted : accepted (record { line = call .line; verdict = verdict }) ≡ true) where
+  clear-way : Way call (length before) → (clean call ≡ true) × (noRoom call ≡ false)
+  clear-way (refused m h g r o) =
+      absurd (true≢false (sym is-accepted ∙ refused-not (call .line) verdict m h (j .says ∙ ap (λ (x : Outcome). x .verdict) o)))
+  clear-way (stuck r t o) =
+      absurd (true≢false (sym is-accepted ∙ refused-not (call .line) verdict 11 (λ e. omega arith) (j .says ∙ ap (λ (x : Outcome). x .verdict) o)))
+  clear-way (heard r t o) = (sym (judged-clean (call .line) verdict call (j .says ∙ ap (λ (x : Outcome). x .verdict) o)) ∙ is-accepted, t)
+
+  pub accepted-clear : (clean call ≡ true) × (noRoom call ≡ false)
+  accepted-clear = clear-way (way call (length before))
+
+  new-or-cxl : (isNew (call .line) || isCxl (call .line)) ≡ true
+  new-or-cxl = by-test (isNew (call .line)) (λ t. rw t) (λ t. rw (t, clean-cxl call (accepted-clear .0) t))
 
 room-clean : (call : Call) → noRoom call ≡ true → clean call ≡ true
 unfolding noRoom
@@ -194,6 +208,7 @@ module _ {c : ℕ} {history : List Answered} (call : Call) {before findings left
         con024 = rule-listed call j 1 24 rule024 refl (lit< tt) refl ∙ ap (λ b. bit (reach && b)) is-024;
         con025 = rule-listed call j 2 25 rule025 refl (lit< tt) refl ∙ ap (λ b. bit (reach && b)) is-025;
         refusal11 = eleven-way (way call (length before)) ∙ ap (λ b. reach && b) no-room-is;
+        kind = new-or-cxl call j;
       }
 
 pub condition3 : {c : ℕ} {history : List Answered} {register : List ℕ} → Run c history register → Condition3 c history register

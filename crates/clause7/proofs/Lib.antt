@@ -4,4 +4,6 @@ mod TableLaws
 mod Kept
 mod CallLaws
 pub mod Condition3
+pub mod Contract
 pub mod Teeth
+pub mod Afternoon

@@ -1,19 +1,18 @@
 -- What a line without form findings in cells 4 and 2 has there, and what a clean line is.
 use mathlib.Core.Path.{_≡_, _∙_, refl, sym, ap}
-use mathlib.Core.Bool.{Bool, true, false, cond, not, _&&_, _||_, true≢false}
+use mathlib.Core.Bool.{Bool, true, false, not, _&&_, true≢false}
 use mathlib.Core.Logic.{_⊎_, inl, inr, ⊎-elim}
 use mathlib.Core.List.{List, [], _∷_}
-use Prim.Native.Nat.{ℕ, zero, suc, _+_, _≤_, _<_}
+use Prim.Native.Nat.{ℕ, suc, _≤_, _<_}
 use native.Mathlib.Omega.{arith}
-use borrow.Author.Tests.{not-true, not-false, leb-true, eqb-true, eq-eqb, le-leb}
-use lib.Dec.{eqb, leb, lit<}
+use borrow.Author.Tests.{not-true, not-false, leb-true, eqb-true}
+use lib.Dec.{leb, lit<}
 use lib.ListN.{length, getD}
 use Rattle.text.specs.Ascii.{ascii}
-use Rattle.text.specs.Word.{same}
 use Rattle.text.specs.Shape.{suits, shape}
 use Rattle.text.specs.Class.{allOf}
 use Rattle.text.specs.declared.classes.Class.the-variants.{CapitalDigit}
-use Rattle.text.proofs.Bools.{by-test, and-left, and-right, or-left, or-right}
+use Rattle.text.proofs.Bools.{by-test, and-left, and-right, or-right}
 use Rattle.cells.specs.Cells.{cell}
 use Rattle.forms.specs.Forms.{holds, formOf}
 use Rattle.forms.specs.Findings.{statusOf, found, blank, formFinding, formFindings}

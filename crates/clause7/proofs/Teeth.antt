@@ -1,36 +1,29 @@
 -- That condition 3 bites: there are empty registers of every size, any call can come next, what a call leaves is settled,
 -- and every accepted line turns its pair over and changes the register.
 use mathlib.Core.Path.{_≡_, _∙_, refl, sym, ap}
-use mathlib.Core.Bool.{Bool, true, false, cond, not, _&&_, true≢false}
-use mathlib.Core.List.{List, [], _∷_, _++_}
-use Prim.Native.Nat.{ℕ, zero, suc, _+_, _*_, _-_, _/_, _≤_}
+use mathlib.Core.Bool.{Bool, true, false, cond, not, true≢false}
+use mathlib.Core.List.{List, _∷_, _++_}
+use Prim.Native.Nat.{ℕ, _+_, _*_, _-_, _/_, _≤_}
 use native.Mathlib.Nat.{min-eq-left}
 use native.Mathlib.Omega.{arith}
-use borrow.Author.Tests.{eqb-true, ne-eqb}
-use lib.Dec.{eqb, lit≤}
 use lib.ListN.{length, replicate, length-replicate}
 use Rattle.text.specs.Ascii.{ascii}
-use Rattle.text.specs.Word.{startsWith, same}
-use Rattle.text.proofs.Bools.{by-test, and-left}
+use Rattle.text.specs.Word.{startsWith}
 use Rattle.text.proofs.Determined.{same-both}
 use Rattle.cells.specs.Cells.{cell}
-use Rattle.register.specs.Frame.{used, capacity, framed}
+use Rattle.register.specs.Frame.{used, capacity}
 use Rattle.register.specs.Rows.{standing}
 use Rattle.register.proofs.Words.{same-refl}
-use Rattle.register.proofs.FrameLaws.{Framed, is-framed}
-use Rattle.register.proofs.PairLaws.{Shaped}
+use Rattle.register.proofs.FrameLaws.{is-framed}
 use Rattle.facts.specs.Call.{Call}
 use Rattle.facts.specs.Words.{isLive}
-use Rattle.facts.specs.Rules.{isNew, pairStands, standingOf}
+use Rattle.facts.specs.Rules.{isNew, pairStands}
 use Rattle.verdict.specs.declared.Verdict.{Verdict}
-use Rattle.verdict.specs.Verdict.{verdictOf, refusedBy}
-use Rattle.verdict.specs.Findings.{over}
-use Rattle.judge.specs.Refusal.{allFlags, clean}
-use Rattle.judge.specs.Outcome.{Outcome, outcome, refusedOutcome, Judged}
-use Rattle.clause7.specs.History.{Answered, accepted, Pair, pairIn, samePair, New, Cancelling, wasNew, kindOf, lastAccepted, Empty, Run, start, next, bytesOf, shaped}
+use Rattle.judge.specs.Outcome.{Outcome, outcome, Judged}
+use Rattle.clause7.specs.History.{Answered, accepted, Pair, pairIn, samePair, New, Cancelling, wasNew, lastAccepted, Empty, Run, next, bytesOf}
 use Rattle.clause7.proofs.TableLaws.{is-shaped}
-use Rattle.clause7.proofs.CallLaws.{Way, refused, stuck, heard, way, Sound, sound}
-use Rattle.clause7.proofs.Condition3.{condition3, refused-not, judged-clean}
+use Rattle.clause7.proofs.CallLaws.{Sound, sound}
+use Rattle.clause7.proofs.Condition3.{condition3, accepted-clear}
 
 -- an empty register with room for c rows: the head, and 74 bytes for each row
 unfoldable pub fresh : ℕ → List ℕ
@@ -66,20 +59,12 @@ one-result p q = (same-both (p .says) (q .says), same-both (p .lists) (q .lists)
 -- an accepted line
 module _ {c : ℕ} {history : List Answered} (call : Call) {before findings left : List ℕ} {verdict : Verdict} (run : Run c history (call .register))
     (j : Judged (outcome call (length before)) before verdict findings left)
-    (yes-it-is : accepted (record { line = call .line; verdict = verdict }) ≡ true) where
+    (is-accepted : accepted (record { line = call .line; verdict = verdict }) ≡ true) where
   abbrev pair : Pair
   pair = pairIn (call .line)
 
-  sound-way : Way call (length before) → Sound call
-  sound-way (refused m h g r o) =
-      absurd (true≢false (sym yes-it-is ∙ refused-not (call .line) verdict m h (j .says ∙ ap (λ (x : Outcome). x .verdict) o)))
-  sound-way (stuck r t o) =
-      absurd (true≢false (sym yes-it-is ∙ refused-not (call .line) verdict 11 (λ e. omega arith) (j .says ∙ ap (λ (x : Outcome). x .verdict) o)))
-  sound-way (heard r t o) =
-      sound call (sym (judged-clean (call .line) verdict call (j .says ∙ ap (λ (x : Outcome). x .verdict) o)) ∙ yes-it-is) t
-
   is-sound : Sound call
-  is-sound = sound-way (way call (length before))
+  is-sound = let (clear, room) = accepted-clear call j is-accepted in sound call clear room
 
   before-it : isLive (standing 1 0 (call .register) (bytesOf pair)) ≡ not (isNew (call .line))
   unfolding pairStands
@@ -92,7 +77,7 @@ module _ {c : ℕ} {history : List Answered} (call : Call) {before findings left
   unfolding lastAccepted
   after-it =
       condition3 (next call run j) .stands .live pair (is-shaped {p = pair} (is-sound .shape))
-      ∙ rw (yes-it-is, same-self) (new-or-not (isNew (call .line)))
+      ∙ rw (is-accepted, same-self) (new-or-not (isNew (call .line)))
     where
       new-or-not : (b : Bool) → wasNew (cond b New Cancelling) ≡ b
       new-or-not true = refl

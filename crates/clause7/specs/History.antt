@@ -3,7 +3,7 @@
 -- accepted line was NEW. CON-023, 024, 025 and refusal 11 follow that history.
 use Prim.Native.Nat.{ℕ, _+_}
 use mathlib.Core.Path.{_≡_}
-use mathlib.Core.Bool.{Bool, true, false, cond, not, _&&_}
+use mathlib.Core.Bool.{Bool, true, false, cond, not, _&&_, _||_}
 use mathlib.Core.List.{List, [], _∷_}
 use lib.Dec.{eqb, leb}
 use lib.ListN.{length, take}
@@ -64,7 +64,7 @@ wasCxl Never = false
 wasCxl New = false
 wasCxl Cancelling = true
 
--- an accepted line is NEW or CXL
+-- an accepted line is NEW or CXL (`kind` below)
 abbrev pub kindOf : List ℕ → Last
 kindOf line = cond (isNew line) New Cancelling
 
@@ -116,33 +116,33 @@ reached call room = eqb (firstFrom 1 (early call room)) 0 && not (notWhole call)
 abbrev pub listed : ℕ → Verdict → List ℕ → ℕ
 listed code verdict findings = times code (take (verdict .count) findings)
 
+-- NEW, or CXL, and cells 4 and 2 are well formed
+abbrev pub newPair : List ℕ → Bool
+newPair line = isNew line && good line 4 && good line 2
+
+abbrev pub cxlPair : List ℕ → Bool
+cxlPair line = isCxl line && good line 4 && good line 2
+
+-- what the last accepted line of the call's own pair was
+abbrev pub lastOf : List Answered → Call → Last
+lastOf history call = lastAccepted history (pairIn (call .line))
+
 pub record Follows (c : ℕ) (history : List Answered) (call : Call) (room : ℕ) (verdict : Verdict) (findings : List ℕ) : Type 0 where
-  -- NEW, and the pair's last accepted line was NEW
-  pub con023 :
-      listed 23 verdict findings
-      ≡ bit
-      (reached call room
-      && (isNew (call .line) && good (call .line) 4 && good (call .line) 2 && wasNew (lastAccepted history (pairIn (call .line)))))
-  -- CXL, and the pair was never accepted
-  pub con024 :
-      listed 24 verdict findings
-      ≡ bit
-      (reached call room
-      && (isCxl (call .line) && good (call .line) 4 && good (call .line) 2 && not (ever (lastAccepted history (pairIn (call .line))))))
-  -- CXL, and the pair's last accepted line was CXL
-  pub con025 :
-      listed 25 verdict findings
-      ≡ bit
-      (reached call room
-      && (isCxl (call .line) && good (call .line) 4 && good (call .line) 2 && wasCxl (lastAccepted history (pairIn (call .line)))))
-  -- no rule or form objects, NEW, the pair was never accepted, and c pairs were
+  -- CON-023: NEW, and the pair's last accepted line was NEW
+  pub con023 : listed 23 verdict findings ≡ bit (reached call room && (newPair (call .line) && wasNew (lastOf history call)))
+  -- CON-024: CXL, and the pair was never accepted
+  pub con024 : listed 24 verdict findings ≡ bit (reached call room && (cxlPair (call .line) && not (ever (lastOf history call))))
+  -- CON-025: CXL, and the pair's last accepted line was CXL
+  pub con025 : listed 25 verdict findings ≡ bit (reached call room && (cxlPair (call .line) && wasCxl (lastOf history call)))
+  -- refusal 11: no rule or form objects, NEW, the pair was never accepted, and c pairs were
   pub refusal11 :
       eqb (verdict .answer) 11
-      ≡ (reached call room
-      && (clean call
-      && (isNew (call .line) && (not (ever (lastAccepted history (pairIn (call .line)))) && eqb (pairsAccepted history) c))))
+      ≡ (reached call room && (clean call && (isNew (call .line) && (not (ever (lastOf history call)) && eqb (pairsAccepted history) c))))
+  -- no line is accepted that is neither NEW nor CXL
+  pub kind : accepted (record { line = call .line; verdict = verdict }) ≡ true → (isNew (call .line) || isCxl (call .line)) ≡ true
 
--- The condition, of any run so far: what the register shows, and what the next call answers, whatever it gets
+-- The condition, of any run so far: what the register shows, and what the next call answers, whatever else it gets. So a cancellation
+-- takes effect at the line that carries it, for each line judged after it
 pub record Condition3 (c : ℕ) (history : List Answered) (register : List ℕ) : Type 0 where
   pub stands : Stands history register
   pub follows :

@@ -1,0 +1,70 @@
+-- The afternoon: each call by computation, and the run that they make.
+use Prim.Native.Nat.{ℕ}
+use mathlib.Core.Path.{_≡_, refl, sym, ap}
+use mathlib.Core.List.{List, [], _∷_}
+use lib.Dec.{lit≤}
+use lib.ListN.{replicate}
+use Rattle.clause7.specs.History.{Answered, Run, start, next}
+use Rattle.clause7.specs.Afternoon.{at, cancels, reports, other, none, holding, accepting, finding, refusing, leaves, answered, history, Afternoon}
+use Rattle.clause7.proofs.Teeth.{fresh, empty}
+use Rattle.text.specs.Class.{allOf}
+use Rattle.text.specs.FirstFrom.{firstFrom}
+use Rattle.text.specs.Number.{digitOf, numeral, numberOf, twoDigits, fourDigits}
+use Rattle.text.specs.Shape.{suits, shape}
+use Rattle.text.specs.Word.{startsWith, same, among, oneOf}
+use Rattle.calendar.specs.Dates.{dayWritten}
+use Rattle.calendar.specs.Day.{leap, monthLength, yearLength, isDay, sum, dayNumber}
+use Rattle.calendar.specs.Moments.{isTime, isEnding, microWritten, isMomentCell, whenOf, isMoment}
+use Rattle.ident.specs.Party.{named, wellFormed, identifierOf, partyWith}
+use Rattle.ident.specs.Written.{valueOf, digitsOf, writtenDigits, decimal}
+use Rattle.amount.specs.Decimal.{pointAt, whole, decimals, isDecimal, digitsOf as digitsOf-amount, valueOf as valueOf-amount, tagged}
+use Rattle.amount.specs.Price.{priceOf}
+use Rattle.amount.specs.Quantity.{quantityOf}
+use Rattle.cells.specs.Cells.{cellsOf, cell}
+use Rattle.forms.specs.Findings.{statusOf, formFinding, formFindings}
+use Rattle.forms.specs.Forms.{holds, formOf}
+use Rattle.lists.specs.Frame.{framedAs}
+use Rattle.lists.specs.Rows.{chunks, rowsFrom, some}
+use Rattle.register.specs.Frame.{used, capacity, framed, full, isUsed}
+use Rattle.register.specs.Pair.{filled, pairBytes}
+use Rattle.register.specs.Rows.{rowsIn, ownFrom, look, firstRow, standing}
+use Rattle.register.specs.Written.{restated, appended, put, setCancelled}
+use Rattle.cfi.specs.Rules.{words, rules, any, matches, broken, violated}
+use Rattle.cfi.specs.Table.{spaced, textOf, rowsFrom as rowsFrom-cfi, matchesIn, rowBroken, marked}
+use Rattle.facts.specs.Rules.{goodCells, pairStands, holdings, flags}
+use Rattle.facts.specs.Words.{momentOf, dayOf, leiGoodUnlapsed, leiGood, leiWrong, countryWrong, partyLeiWrong, partyCountryWrong, partyMicWrong, partyShapeWrong, birthWrong, isLate, isPast, isEntity, currencyWrong, quantityCurrencyWrong, secondCurrency, notBefore, tooOld, heldWord, heldQuantity, heldPrice, heldSwap}
+use Rattle.verdict.specs.Codes.{ruleCodes, formCodes, codes}
+use Rattle.verdict.specs.Verdict.{wordOf, pick, verdictOf, refusedBy}
+use Rattle.judge.specs.Outcome.{Outcome, written, outcome}
+use Rattle.judge.specs.Refusal.{allFlags, clean, noRoom, refusal}
+
+step :
+    {c : ℕ} {earlier : List Answered} (line register : List ℕ) (o : Outcome) → Run c earlier register → outcome (at line register) 137 ≡ o
+    → Run c (answered line (o .verdict) ∷ earlier) (o .register)
+step line register o run e =
+    next (at line register) {before = replicate 137 0} run
+    (record { says = ap (λ (x : Outcome). x .verdict) (sym e); lists = refl; keeps = ap (λ (x : Outcome). x .register) (sym e) })
+
+-- each call
+pub afternoon : Afternoon
+unfolding allOf firstFrom digitOf numeral numberOf twoDigits fourDigits suits shape startsWith same among oneOf dayWritten leap monthLength yearLength isDay sum dayNumber isTime isEnding microWritten isMomentCell whenOf isMoment named wellFormed identifierOf partyWith valueOf digitsOf writtenDigits decimal pointAt whole decimals isDecimal digitsOf-amount valueOf-amount tagged priceOf quantityOf cellsOf cell statusOf formFinding formFindings holds formOf framedAs chunks rowsFrom some used capacity framed full isUsed filled pairBytes rowsIn ownFrom look firstRow standing restated appended put setCancelled words rules any matches broken violated spaced textOf rowsFrom-cfi matchesIn rowBroken marked goodCells pairStands holdings flags momentOf dayOf leiGoodUnlapsed leiGood leiWrong countryWrong partyLeiWrong partyCountryWrong partyMicWrong partyShapeWrong birthWrong isLate isPast isEntity currencyWrong quantityCurrencyWrong secondCurrency notBefore tooOld heldWord heldQuantity heldPrice heldSwap ruleCodes formCodes codes wordOf pick verdictOf refusedBy written outcome allFlags clean noRoom refusal
+afternoon =
+    record { too-early = refl; reported = refl; twice = refl; cancelled = refl; twice-cancelled = refl; again = refl; no-room = refl }
+
+-- one after the other, from an empty register
+pub afternoon-run : Run 1 history (holding 1)
+unfolding fresh
+afternoon-run =
+    step other (holding 1) (leaves (refusing 11) [] (holding 1))
+    (step reports (holding 2) (leaves accepting [] (holding 1))
+    (step cancels (holding 2) (leaves (finding 4) (25 ∷ []) (holding 2))
+    (step cancels (holding 1) (leaves accepting [] (holding 2))
+    (step reports (holding 1) (leaves (finding 1) (23 ∷ []) (holding 1))
+    (step reports none (leaves accepting [] (holding 1))
+    (step cancels none (leaves (finding 2) (24 ∷ []) none) (start (empty 1 (lit≤ tt))) (afternoon .too-early))
+    (afternoon .reported))
+    (afternoon .twice))
+    (afternoon .cancelled))
+    (afternoon .twice-cancelled))
+    (afternoon .again))
+    (afternoon .no-room)
