@@ -1,0 +1,68 @@
+-- What is printed for a line is its outcome.
+use mathlib.Core.Path.{_≡_, _∙_, refl, ap}
+use mathlib.Core.Bool.{Bool, true, false, cond}
+use mathlib.Core.List.{List, [], _∷_, _++_, append-assoc}
+use Prim.Native.Nat.{ℕ, _≤_}
+use native.Mathlib.Omega.{arith}
+use lib.ListN.{length, take}
+use lib.Seq.{take-all, take-append-seam}
+use lib.Dec.{eqb}
+use Rattle.facts.specs.Call.{Call}
+use Rattle.verdict.specs.declared.Verdict.{Verdict}
+use Rattle.verdict.specs.Verdict.{pick, verdictOf, refusedBy}
+use Rattle.verdict.specs.Codes.{codes}
+use Rattle.verdict.proofs.Promises.{code-count}
+use Rattle.judge.specs.Refusal.{allFlags, refusal}
+use Rattle.judge.specs.Outcome.{Outcome, outcome, Judged, judgedOutcome, refusedOutcome}
+use Rattle.checker.specs.Kept.{Kept}
+use Rattle.checker.specs.Printed.{decimal, spaced, printed, Answered}
+use Rattle.checker.proofs.KeptLaws.{keep-then}
+use Rattle.checker.proofs.DecimalLaws.{spaced-join, printed-short}
+
+pick-short : (table : List ℕ) (flags : List Bool) → length (pick table flags) ≤ length table
+unfolding pick
+pick-short [] flags = omega arith
+pick-short (code ∷ table) [] = omega arith
+pick-short (code ∷ table) (true ∷ flags) = omega (arith, pick-short table flags)
+pick-short (code ∷ table) (false ∷ flags) = omega (arith, pick-short table flags)
+
+-- n is how many codes are listed, and no more than there are
+pub record Counted (o : Outcome) : Type 0 where
+  pub count-is : o .verdict .count ≡ length (o .listed)
+  pub few : length (o .listed) ≤ 137
+
+pub outcome-counted : (c : Call) (room : ℕ) → Counted (outcome c room)
+unfolding outcome verdictOf refusedBy
+outcome-counted c room = either (eqb (refusal c room) 0)
+  where
+    either : (t : Bool) → Counted (cond t (judgedOutcome c) (refusedOutcome c (refusal c room)))
+    either true = record { count-is = refl; few = omega (arith, pick-short codes (allFlags c), code-count) }
+    either false = record { count-is = refl; few = omega arith }
+
+pub answered : {number n : ℕ} {o : Outcome} {before findings register codes out out' : List ℕ} {v : Verdict}
+    → Counted o → Judged o before v findings register → codes ≡ take (v .count) findings
+    → Kept out 0 (printed number (v .answer) (v .count) codes) out' n → Answered number o out out' n register
+answered {number} {n} {o} {before} {findings} {register} {codes} {out} {out'} {v} counted e listed p =
+    let same : codes ≡ o .listed =
+    listed
+    ∙ (λ i. take ((ap (λ (w : Verdict). w .count) (e .says) ∙ counted .count-is) i) ((e .lists) i))
+    ∙ take-append-seam (o .listed) _ in
+    let line : printed number (v .answer) (v .count) codes ≡ printed number (o .verdict .answer) (o .verdict .count) (o .listed) =
+    λ i. printed number ((e .says) i .answer) ((e .says) i .count) (same i) in
+    record {
+      prints = λ room.
+          p .holds ∙ ap (take (length out)) line
+          ∙ take-all (length out) (printed number (o .verdict .answer) (o .verdict .count) (o .listed))
+          (omega (arith, printed-short number (o .verdict .answer) (o .verdict .count) (o .listed) (counted .few)));
+      keeps = e .keeps;
+    }
+
+-- number, answer and count, codes, LF: one behind the other
+pub in-order : (number answer count : ℕ) (codes : List ℕ) {a b c d n : ℕ} {s0 s1 s2 s3 s4 s5 : List ℕ}
+    → Kept s0 0 (decimal number) s1 a → Kept s1 a (spaced (answer ∷ [])) s2 b → Kept s2 b (spaced (count ∷ [])) s3 c
+    → Kept s3 c (spaced codes) s4 d → Kept s4 d (10 ∷ []) s5 n → Kept s0 0 (printed number answer count codes) s5 n
+unfolding printed
+in-order number answer count codes p q r s t =
+    let e : (((decimal number ++ spaced (answer ∷ [])) ++ spaced (count ∷ [])) ++ spaced codes) ++ (10 ∷ []) ≡ printed number answer count codes =
+    rw (spaced-join .joined (answer ∷ []) (count ∷ codes), spaced-join .joined (count ∷ []) codes) (simp append-assoc) in
+    rw e at (keep-then (keep-then (keep-then (keep-then p q) r) s) t)

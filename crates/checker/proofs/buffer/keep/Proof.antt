@@ -1,0 +1,20 @@
+use Rattle.checker.proofs.buffer.keep.Statement.{statement}
+use Rattle.checker.proofs.buffer.keep.Tie as tie
+use Rattle.checker.proofs.KeptLaws.{keep-in, keep-out}
+use borrow.Author.Needs.{needs}
+
+returns : tie.Need-returns
+returns c = keep-in _ _ _ (c .if1 .taken)
+
+returns-2 : tie.Need-returns-2
+returns-2 c = keep-out _ _ _ (c .if1 .left)
+
+pub keep-spec : {M : Type 1} → statement M
+keep-spec =
+    tie.close
+    (tie.spec
+    (λ c. search needs)
+    (λ c. search needs)
+    (λ c. search needs)
+    returns
+    returns-2)

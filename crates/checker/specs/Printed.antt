@@ -1,0 +1,34 @@
+-- What is printed for a line: its number, the answer, n and the codes, in decimal with single spaces, then LF.
+use Prim.Native.Nat.{ℕ, zero, suc, _+_, _/_, _%_, _≤_}
+use mathlib.Core.Path.{_≡_}
+use mathlib.Core.Bool.{cond}
+use mathlib.Core.List.{List, [], _∷_, _++_}
+use lib.Dec.{ltb}
+use lib.ListN.{length, take}
+use Rattle.judge.specs.Outcome.{Outcome}
+
+-- the digits of a number that has at most f
+unfoldable pub digitsOf : ℕ → ℕ → List ℕ
+digitsOf zero n = []
+digitsOf (suc f) n = cond (ltb n 10) ((48 + n) ∷ []) (digitsOf f (n / 10) ++ ((48 + n % 10) ∷ []))
+
+-- in decimal: numbers of 64 bits have at most 20 digits
+abbrev pub decimal : ℕ → List ℕ
+decimal n = digitsOf 20 n
+
+-- each number behind a space
+unfoldable pub spaced : List ℕ → List ℕ
+spaced [] = []
+spaced (n ∷ ns) = (32 ∷ decimal n) ++ spaced ns
+
+unfoldable pub printed : ℕ → ℕ → ℕ → List ℕ → List ℕ
+printed number answer count codes = decimal number ++ (spaced (answer ∷ count ∷ codes) ++ (10 ∷ []))
+
+-- what `printed` takes at most: 140 numbers of up to 20 digits, each but the first behind a space, and LF
+abbrev pub longest : ℕ
+longest = 2940
+
+-- The outcome of a line stands printed in the first n bytes of a buffer that has room for the longest, and its register is kept.
+pub record Answered (number : ℕ) (o : Outcome) (before after : List ℕ) (n : ℕ) (register : List ℕ) : Type 0 where
+  pub prints : longest ≤ length before → take n after ≡ printed number (o .verdict .answer) (o .verdict .count) (o .listed)
+  pub keeps : register ≡ o .register

@@ -1,0 +1,16 @@
+// The end of a line.
+ghost use mathlib.Core.Path.{_≡_};
+ghost use Rattle.checker.specs.Bare.{bare as Bare·bare};
+
+// A line whose LF is dropped, without a CR at its end.
+pub fn bare(s: &[u8]) -> &[u8]
+    ensures { λ r. ⌜ now r ≡ Bare·bare (now (s .entry)) ⌝ }
+{
+    if 0 < s.len() {
+        let last = s.len() - 1;
+        if s[last] == b'\r' {
+            return text::head(s, last);
+        }
+    }
+    s
+}

@@ -1,0 +1,62 @@
+// What is printed for a line: numbers in decimal, parted by single spaces, then LF.
+ghost use mathlib.Core.Path.{_≡_};
+ghost use mathlib.Core.List.{[], _∷_};
+ghost use lib.ListN.{take};
+ghost use Rattle.checker.specs.Kept.{Kept};
+ghost use Rattle.checker.specs.Printed.{decimal, spaced, printed};
+use crate::buffer::keep;
+use crate::buffer::keep_all;
+
+fn wide(x: u16) -> u64
+    ensures { λ r. ⌜ r ≡ x ⌝ }
+{
+    x as u64
+}
+
+fn keep_number(out: &mut [u8], kept: usize, n: u64) -> usize
+    ensures { λ r. ⌜ Kept (now (out .entry)) kept (decimal n) (now (out .exit)) r ⌝ }
+{
+    let mut digits = [0u8; 20];
+    let k = io::decimal(n, &mut digits);
+    keep_all(out, kept, &digits[..k])
+}
+
+fn keep_spaced(out: &mut [u8], kept: usize, n: u16) -> usize
+    ensures { λ r. ⌜ Kept (now (out .entry)) kept (spaced (n ∷ [])) (now (out .exit)) r ⌝ }
+{
+    let begun = keep(out, kept, b' ');
+    keep_number(out, begun, wide(n))
+}
+
+fn keep_codes(out: &mut [u8], kept: usize, codes: &[u16]) -> usize
+    ensures { λ r. ⌜ Kept (now (out .entry)) kept (spaced (now (codes .entry))) (now (out .exit)) r ⌝ }
+{
+    let mut n = kept;
+    let mut i = 0;
+    while i < codes.len() {
+        n = keep_spaced(out, n, codes[i]);
+        i += 1;
+    }
+    n
+}
+
+// The first entries, or all where there are fewer.
+pub fn listed(findings: &[u16], count: u16) -> &[u16]
+    ensures { λ r. ⌜ now r ≡ take count (now (findings .entry)) ⌝ }
+{
+    let n = count as usize;
+    if n <= findings.len() {
+        return &findings[..n];
+    }
+    findings
+}
+
+pub fn keep_answer(out: &mut [u8], number: u64, answer: u16, count: u16, codes: &[u16]) -> usize
+    ensures { λ r. ⌜ Kept (now (out .entry)) 0 (printed number answer count (now (codes .entry))) (now (out .exit)) r ⌝ }
+{
+    let numbered = keep_number(out, 0, number);
+    let answered = keep_spaced(out, numbered, answer);
+    let counted = keep_spaced(out, answered, count);
+    let coded = keep_codes(out, counted, codes);
+    keep(out, coded, b'\n')
+}
