@@ -1,2 +1,3 @@
--- That the contract leaves one answer.
+-- That the contract leaves one answer, and that the flags stand in the order of the codes.
 mod Unique
+pub mod InOrder
