@@ -1,0 +1,68 @@
+//! The command line. Results go to standard output, messages to standard error; exit status 1 where a
+//! comparison or a count fails, 2 where a file or the command cannot be read.
+
+use std::error::Error;
+use std::fs::File;
+use std::io::{self, BufReader, BufWriter};
+use std::process::ExitCode;
+
+use host::{compare, coverage, program, recipe};
+
+const USAGE: &str = "usage:
+  host cases SEED N FILE        make N calls with the results expected of them
+  host answer FILE RESULTS      write the reference's own results, as the proved side would
+  host compare FILE RESULTS     hold the results of the proved side against them
+  host coverage FILE [TIMES]    count what the cases reach; each code alone at least TIMES (5)
+  host program                  document 01's program: standard input to standard output
+The files are described in FORMAT.md.";
+
+fn open(path: &str) -> Result<BufReader<File>, String> {
+    let file = File::open(path).map_err(|error| format!("{path}: {error}"))?;
+    Ok(BufReader::with_capacity(1 << 16, file))
+}
+
+fn run(arguments: &[&str]) -> Result<bool, Box<dyn Error>> {
+    let output = BufWriter::new(io::stdout().lock());
+    match arguments {
+        ["cases", seed, count, path] => {
+            let seed = seed.parse().map_err(|_| format!("{seed}: not a seed"))?;
+            let count = count.parse().map_err(|_| format!("{count}: not a number of cases"))?;
+            let file = File::create(path).map_err(|error| format!("{path}: {error}"))?;
+            recipe::run(seed, count, BufWriter::with_capacity(1 << 16, file), output)?;
+            Ok(true)
+        }
+        ["answer", cases, results] => {
+            let file = File::create(results).map_err(|error| format!("{results}: {error}"))?;
+            compare::answer(open(cases)?, BufWriter::with_capacity(1 << 16, file))?;
+            Ok(true)
+        }
+        ["compare", cases, results] => Ok(compare::run(open(cases)?, open(results)?, output)?),
+        ["coverage", cases] => Ok(coverage::run(open(cases)?, 5, output)?),
+        ["coverage", cases, times] => {
+            let times = times.parse().map_err(|_| format!("{times}: not a number"))?;
+            Ok(coverage::run(open(cases)?, times, output)?)
+        }
+        ["program"] => {
+            program::run(io::stdin().lock(), output)?;
+            Ok(true)
+        }
+        ["--help" | "-h" | "help"] => {
+            println!("{USAGE}");
+            Ok(true)
+        }
+        _ => Err(USAGE.into()),
+    }
+}
+
+fn main() -> ExitCode {
+    let arguments: Vec<String> = std::env::args().skip(1).collect();
+    let arguments: Vec<&str> = arguments.iter().map(String::as_str).collect();
+    match run(&arguments) {
+        Ok(true) => ExitCode::SUCCESS,
+        Ok(false) => ExitCode::from(1),
+        Err(message) => {
+            eprintln!("{message}");
+            ExitCode::from(2)
+        }
+    }
+}

@@ -1,0 +1,561 @@
+//! Whole calls: cell forms, refusals, sequences over one register, and calls at random.
+
+use crate::file::{Case, FILLER, LONGEST_LINE, LONGEST_REGISTER};
+use crate::reference::{Day, MICROS};
+
+use super::draft::{timestamp, Draft, Maker, Want};
+use super::rng::CODE;
+use super::values::{malformed, nudged, scheme, well_formed, well_shaped, NEEDED};
+use super::world::ANY_STATUS;
+use super::Intent;
+
+/// Cells whose contents no rule reads: well formed, they leave a clean line clean.
+const UNREAD: [usize; 21] = [9, 10, 13, 14, 18, 19, 22, 23, 32, 39, 40, 42, 46, 58, 59, 60, 61, 62, 63, 64, 65];
+
+/// Cells that hold text of up to 140 or 350 characters.
+const TEXTS: [(usize, usize); 9] =
+    [(9, 140), (10, 140), (13, 140), (14, 140), (18, 140), (19, 140), (22, 140), (23, 140), (42, 350)];
+
+/// The widths of the rows of the lists.
+const WIDTHS: [usize; 5] = [30, 10, 12, 13, 26];
+
+impl Maker {
+    /// A cell malformed, or well formed at the edge of its form.
+    pub fn form(&mut self, cell: usize, hit: bool) -> (Draft, Intent) {
+        let code = 1000 + cell as u16;
+        if [2, 4, 6].contains(&cell) && self.rng.one_in(4) {
+            let mut draft = self.cancellation();
+            let value = if hit { malformed(&mut self.rng, cell) } else { well_formed(&mut self.rng, cell) };
+            draft.set(cell, value);
+            let intent = match (hit, cell) {
+                (true, _) => Intent::Exactly(vec![code]),
+                (false, 6) => Intent::Without(code),
+                (false, _) => Intent::Exactly(Vec::new()),
+            };
+            return (draft, intent);
+        }
+        let mut draft = self.clean(Want::default());
+        if hit {
+            let value = malformed(&mut self.rng, cell);
+            draft.set(cell, value);
+            if cell == 1 && self.rng.one_in(2) {
+                // Nothing else is looked at then.
+                for cell in [2, 4, 6, 7, 28, 36, 65] {
+                    let value = malformed(&mut self.rng, cell);
+                    draft.set(cell, value);
+                }
+            }
+            return (draft, Intent::Exactly(vec![code]));
+        }
+        match cell {
+            1 => return (draft, Intent::Exactly(Vec::new())),
+            28 if draft.t < draft.s => {
+                let time = self.rng.of(&[0, MICROS - 1, MICROS - 1_000_000, 500_000, 10_000_000]);
+                draft.set(28, timestamp(&mut self.rng, draft.t, time));
+                return (draft, Intent::Exactly(Vec::new()));
+            }
+            _ => {
+                let value = well_formed(&mut self.rng, cell);
+                draft.set(cell, value);
+            }
+        }
+        let intent =
+            if cell == 2 || UNREAD.contains(&cell) { Intent::Exactly(Vec::new()) } else { Intent::Without(code) };
+        (draft, intent)
+    }
+
+    /// A call that gets this refusal, or just does not.
+    pub fn refusal(&mut self, number: u16, hit: bool) -> (Case, Intent) {
+        let mut draft = if self.rng.one_in(4) { self.cancellation() } else { self.clean(Want::default()) };
+        if number == 11 {
+            return self.full_register(hit);
+        }
+        if number == 9 {
+            // Just as long as a line may be, or a little longer.
+            let length = if hit { self.rng.of(&[4097, 4097, 4098, LONGEST_LINE]) } else { 4096 };
+            self.lengthen(&mut draft, length);
+        }
+        let mut case = self.case(&draft);
+        if hit {
+            self.damage(&mut case, number);
+            return (case, Intent::Refused(number));
+        }
+        let intent = match number {
+            1..=5 => {
+                // An empty list is a list.
+                let list = number as usize - 1;
+                if self.rng.one_in(2) {
+                    case.lists[list] = [&case.lists[list][..5], &[0; 4]].concat().into();
+                }
+                Intent::Judged
+            }
+            6 => {
+                // All rows used; or no row at all.
+                if self.rng.one_in(2) {
+                    let rows = (case.register.len() - 9) / 74;
+                    case.register[5..9].copy_from_slice(&(rows as u32).to_le_bytes());
+                    if draft.get(1) == b"NEW" {
+                        // It may be full now.
+                        draft.set(65, "");
+                        case.line = draft.line();
+                    }
+                } else {
+                    draft.set(6, "");
+                    case.line = draft.line();
+                    case.register = [b"TRN", &1u16.to_le_bytes()[..], &[0; 4]].concat();
+                }
+                Intent::Judged
+            }
+            7 => {
+                let day = self.rng.of(&[19000101, 20000229, 20240229, 20250430, 99991231, 19000228, case.day]);
+                case.day = day;
+                case.micro = self.rng.of(&[0, MICROS - 1]);
+                Intent::Judged
+            }
+            8 => {
+                case.findings = vec![FILLER; 137];
+                Intent::Exactly(Vec::new())
+            }
+            _ => Intent::Exactly(Vec::new()),
+        };
+        (case, intent)
+    }
+
+    /// A call with two or three things wrong: the lowest refusal is given.
+    pub fn refusals(&mut self) -> (Case, Intent) {
+        let mut draft = if self.rng.one_in(4) { self.cancellation() } else { self.clean(Want::default()) };
+        draft.full = self.rng.one_in(3);
+        let mut case = self.case(&draft);
+        let mut numbers: Vec<u16> = (1..=10).collect();
+        self.rng.shuffle(&mut numbers);
+        numbers.truncate(self.rng.of(&[2, 2, 3, 10]));
+        // The length after the cells, which may shorten the line.
+        numbers.sort_unstable_by(|a, b| b.cmp(a));
+        for number in &numbers {
+            self.damage(&mut case, *number);
+        }
+        (case, Intent::Refused(numbers[numbers.len() - 1]))
+    }
+
+    /// Damages a call so that it gets this refusal, if none before.
+    fn damage(&mut self, case: &mut Case, number: u16) {
+        match number {
+            1..=5 => {
+                let list = number as usize - 1;
+                let damaged = self.damaged_list(&case.lists[list], WIDTHS[list]);
+                case.lists[list] = damaged.into();
+            }
+            6 => self.damage_register(&mut case.register),
+            7 => {
+                if self.rng.one_in(2) {
+                    let any = self.rng.next() as u32;
+                    let day = self.rng.of(&[
+                        0,
+                        18991231,
+                        19000229,
+                        20230229,
+                        21000229,
+                        20250431,
+                        20250100,
+                        20250132,
+                        20250001,
+                        20251301,
+                        20251232,
+                        100000101,
+                        99999999,
+                        u32::MAX,
+                        any | 0x8000_0000,
+                        20250230,
+                        20240230,
+                        2025032,
+                        202503220,
+                    ]);
+                    case.day = day;
+                } else {
+                    case.micro = self.rng.of(&[
+                        MICROS,
+                        MICROS + 1,
+                        1 << 37,
+                        1 << 40,
+                        u64::MAX,
+                        (1 << 32) * 21,
+                        86_400_000_000_000,
+                    ]);
+                }
+            }
+            8 => {
+                let entries = self.rng.of(&[0, 1, 64, 135, 136, 136, 136]);
+                case.findings = vec![FILLER; entries];
+            }
+            9 => {
+                let length = self.rng.of(&[4097, 4098, LONGEST_LINE]);
+                if case.line.len() < length {
+                    // In the middle of a cell, at the start, or behind the last bar.
+                    let place = self.rng.of(&[0, case.line.len() / 2, case.line.len()]);
+                    let fill = self.rng.of(b"A| \0\xff");
+                    case.line.splice(place..place, vec![fill; length - case.line.len()]);
+                }
+            }
+            _ => {
+                let bars: Vec<usize> = (0..case.line.len()).filter(|&i| case.line[i] == b'|').collect();
+                match self.rng.below(8) {
+                    // One cell fewer: a bar taken out, the last cell taken off.
+                    0 | 1 if !bars.is_empty() => {
+                        case.line.remove(self.rng.of(&bars));
+                    }
+                    2 if !bars.is_empty() => case.line.truncate(bars[bars.len() - 1]),
+                    // One more.
+                    3 => case.line.insert(0, b'|'),
+                    4 => case.line.push(b'|'),
+                    5 if !bars.is_empty() => case.line.insert(self.rng.of(&bars), b'|'),
+                    6 => case.line = self.rng.of(&[&b""[..], b"NEW", b"x", b"|", b"CXL|R1"]).to_vec(),
+                    _ => case.line = vec![b'|'; self.rng.of(&[62, 63, 65, 66, 128, 4096])],
+                }
+            }
+        }
+    }
+
+    fn damaged_list(&mut self, list: &[u8], width: usize) -> Vec<u8> {
+        let mut list = list.to_vec();
+        let rng = &mut self.rng;
+        let count = u32::from_le_bytes(list[5..9].try_into().expect("4 bytes"));
+        match rng.below(9) {
+            0 => list.truncate(rng.below(9)),
+            1 => list.clear(),
+            // Another mark, another version.
+            2 => list[rng.below(3)] ^= rng.of(&[1, 0x20, 0x80]),
+            3 => {
+                let mark = rng.of(&[b"LEI", b"CTY", b"CCY", b"VEN", b"INS", b"TRN", b"lei"]);
+                if list[..3] == *mark {
+                    list[..3].reverse();
+                } else {
+                    list[..3].copy_from_slice(mark);
+                }
+            }
+            4 => list[3..5].copy_from_slice(&rng.of(&[0u16, 2, 256, 257, 65535]).to_le_bytes()),
+            // A length that does not agree.
+            5 => {
+                list.pop();
+            }
+            6 => {
+                let more = rng.of(&[1, width - 1, width]);
+                list.extend(rng.bytes(more));
+            }
+            7 => {
+                let other = rng.of(&[count + 1, count.wrapping_sub(1), u32::MAX, 0, count ^ 0x0100_0000]);
+                let other = if other == count { count + 1 } else { other };
+                list[5..9].copy_from_slice(&other.to_le_bytes());
+            }
+            // A count whose product has the same lower 32 bits, where there is one.
+            _ => {
+                let turn = width & width.wrapping_neg();
+                let other = if turn > 1 { count.wrapping_add(((1u64 << 32) / turn as u64) as u32) } else { count + 1 };
+                list[5..9].copy_from_slice(&other.to_le_bytes());
+            }
+        }
+        list
+    }
+
+    fn damage_register(&mut self, register: &mut Vec<u8>) {
+        let rng = &mut self.rng;
+        let rows = register.len().saturating_sub(9) / 74;
+        match rng.below(7) {
+            0 => register.truncate(rng.below(9)),
+            1 => register[rng.below(3)] ^= rng.of(&[1, 0x20, 0x80]),
+            2 => register[3..5].copy_from_slice(&rng.of(&[0u16, 2, 256, 257, 65535]).to_le_bytes()),
+            // More rows used than there are.
+            3 | 4 => register[5..9].copy_from_slice(&(rows as u32 + 1).to_le_bytes()),
+            5 => register[5..9].copy_from_slice(&rng.of(&[u32::MAX, 1 << 31, 1000]).to_le_bytes()),
+            _ => {
+                // The last row lacks a byte.
+                let used = rows.max(1);
+                register.resize(9 + used * 74 - 1, 0);
+                register[5..9].copy_from_slice(&(used as u32).to_le_bytes());
+            }
+        }
+    }
+
+    /// Fills the text cells so that the line gets this length and stays as it was otherwise.
+    fn lengthen(&mut self, draft: &mut Draft, length: usize) {
+        let mut cells = TEXTS.to_vec();
+        self.rng.shuffle(&mut cells);
+        for (cell, _) in &cells {
+            draft.blank(*cell);
+        }
+        let mut missing = length - draft.line().len();
+        for (cell, most) in cells {
+            // At most four bytes for each character: as few of them as reach the length.
+            let bytes = missing.min(4 * most);
+            let mut text = "😀".repeat(bytes / 4);
+            text.push_str(["", "a", "é", "山"][bytes % 4]);
+            missing -= text.len();
+            draft.set(cell, text);
+        }
+        assert_eq!(draft.line().len(), length);
+    }
+
+    /// A register with no room: a clean new pair is refused; one in it already, one with a finding, and a
+    /// cancellation are not.
+    fn full_register(&mut self, hit: bool) -> (Case, Intent) {
+        let mut draft = self.clean(Want::default());
+        draft.full = true;
+        draft.states.clear();
+        if hit {
+            return (self.case(&draft), Intent::Refused(11));
+        }
+        match self.rng.below(5) {
+            0 => {
+                draft.states = self.rng.of(&[&[2][..], &[0], &[2, 1]]).to_vec();
+                (self.case(&draft), Intent::Exactly(Vec::new()))
+            }
+            1 => {
+                draft.states = vec![1];
+                (self.case(&draft), Intent::Exactly(vec![23]))
+            }
+            2 => {
+                let cell = self.rng.of(&NEEDED[1..]);
+                let value = malformed(&mut self.rng, cell);
+                draft.set(cell, value);
+                (self.case(&draft), Intent::Exactly(vec![1000 + cell as u16]))
+            }
+            3 => {
+                let mut draft = self.cancellation();
+                draft.full = true;
+                if self.rng.one_in(2) {
+                    draft.states.clear();
+                    return (self.case(&draft), Intent::Exactly(vec![24]));
+                }
+                (self.case(&draft), Intent::Exactly(Vec::new()))
+            }
+            _ => {
+                // Room for just one more.
+                let mut case = self.case(&draft);
+                let rows = (case.register.len() - 9) / 74;
+                case.register.splice(9 + rows * 74..9 + rows * 74, [0; 74]);
+                (case, Intent::Exactly(Vec::new()))
+            }
+        }
+    }
+
+    /// Calls one after another over one register: new, new again, cancelled, cancelled again, new in the same
+    /// row, until there is no room. The register of each call is what the one before left.
+    pub fn sequence(&mut self) -> Vec<(Case, Intent)> {
+        let rows = self.rng.of(&[0, 1, 2, 2, 3, 4]);
+        let tail = self.rng.of(&[0, 0, 1, 73]);
+        let mut register = [&b"TRN"[..], &1u16.to_le_bytes(), &[0; 4]].concat();
+        let fill = self.rng.of(&[0, 0, 1, 0xff]);
+        register.resize(9 + 74 * rows + tail, fill);
+        assert!(register.len() <= LONGEST_REGISTER);
+
+        // Pairs that differ in entity or reference only, and what came of each so far.
+        let (t, s) = (self.world.t, self.world.s);
+        let entities = [self.good_lei(t, &[1]), self.good_lei(t, &[1])];
+        let length = self.rng.of(&[1, 5, 51]);
+        let reference = self.rng.text(CODE, length);
+        let longer = [&reference[..], b"0"].concat();
+        let mut pairs: Vec<([u8; 20], Vec<u8>, Option<bool>)> = Vec::new();
+        for entity in entities {
+            for reference in [&reference, &longer] {
+                if !pairs.iter().any(|pair| pair.0 == entity && pair.1 == *reference) {
+                    pairs.push((entity, reference.clone(), None));
+                }
+            }
+        }
+
+        let mut used = 0;
+        let mut calls = Vec::new();
+        for _ in 0..self.rng.between(6, 16) {
+            let which = self.rng.below(pairs.len());
+            let (entity, reference, state) = pairs[which].clone();
+            let new = !self.rng.one_in(3);
+            let submitter = self.good_lei(s, ANY_STATUS);
+            let mut draft = if new {
+                let (entity, submitter) = (Some(entity), Some(submitter));
+                self.clean(Want { t: Some(t), entity, submitter, firm: Some(true), ..Want::default() })
+            } else {
+                let mut draft = self.cancellation();
+                draft.set(4, entity);
+                draft.set(6, submitter);
+                draft
+            };
+            draft.set(2, &reference);
+            let spoilt = self.rng.one_in(6);
+            if spoilt {
+                // A rejected line leaves no trace.
+                let value = malformed(&mut self.rng, 6);
+                draft.set(6, value);
+            }
+            let mut found = match (new, state) {
+                (true, Some(true)) => vec![23],
+                (false, None) => vec![24],
+                (false, Some(false)) => vec![25],
+                _ => Vec::new(),
+            };
+            if spoilt {
+                found.push(1006);
+            }
+            let refused = new && found.is_empty() && state.is_none() && used == rows;
+            if found.is_empty() && !refused {
+                used += usize::from(state.is_none());
+                pairs[which].2 = Some(new);
+            }
+            let mut case = self.case(&draft);
+            case.register = register;
+            register = case.judge().register;
+            calls.push((case, if refused { Intent::Refused(11) } else { Intent::Exactly(found) }));
+        }
+        calls
+    }
+
+    /// Several cells changed at once, well formed or not.
+    pub fn mixture(&mut self) -> (Case, Intent) {
+        let mut draft = if self.rng.one_in(8) { self.cancellation() } else { self.clean(Want::default()) };
+        for _ in 0..self.rng.of(&[1, 2, 3, 5, 8, 13]) {
+            let first = if self.rng.one_in(30) { 1 } else { 2 };
+            let cell = self.rng.between(first, 65);
+            self.change(&mut draft, cell);
+        }
+        if self.rng.one_in(3) {
+            draft.states = self.rng.of(&[&[1][..], &[2], &[], &[1, 2], &[2, 1], &[7]]).to_vec();
+        }
+        draft.full = self.rng.one_in(6);
+        let mut case = self.case(&draft);
+        case.line.truncate(LONGEST_LINE);
+        self.disturb(&mut case);
+        (case, Intent::Any)
+    }
+
+    /// Single bytes changed in several cells at once: parties always, others as it comes.
+    pub fn nudges(&mut self) -> (Case, Intent) {
+        let mut draft = self.clean(Want::default());
+        let mut cells = vec![7, 12, 16, 21, 57, 59];
+        cells.extend((0..10).map(|_| self.rng.between(2, 65)));
+        for cell in cells {
+            let party = [7, 12, 16, 21, 57, 59].contains(&cell);
+            let value = if party && !self.rng.one_in(3) {
+                let country = self.country(draft.t, true);
+                let scheme = scheme(&mut self.rng);
+                [scheme.as_bytes(), &well_shaped(&mut self.rng, scheme, &country)].concat()
+            } else {
+                well_formed(&mut self.rng, cell)
+            };
+            let value = if self.rng.one_in(4) { value } else { nudged(&mut self.rng, value) };
+            draft.set(cell, value);
+        }
+        let mut case = self.case(&draft);
+        case.line.truncate(LONGEST_LINE);
+        (case, Intent::Any)
+    }
+
+    /// Every cell changed.
+    pub fn wreck(&mut self) -> (Case, Intent) {
+        let mut draft = self.clean(Want::default());
+        let malformed_only = self.rng.one_in(3);
+        let mut found = Vec::new();
+        for cell in 2..=65 {
+            if malformed_only {
+                let value = malformed(&mut self.rng, cell);
+                draft.set(cell, value);
+                found.push(1000 + cell as u16);
+            } else if !self.rng.one_in(4) {
+                self.change(&mut draft, cell);
+            }
+        }
+        let mut case = self.case(&draft);
+        if case.line.len() > 4096 {
+            case.line.truncate(LONGEST_LINE);
+            return (case, Intent::Refused(9));
+        }
+        if malformed_only {
+            return (case, Intent::Exactly(found));
+        }
+        self.disturb(&mut case);
+        (case, Intent::Any)
+    }
+
+    fn change(&mut self, draft: &mut Draft, cell: usize) {
+        let t = draft.t;
+        let value = match self.rng.below(8) {
+            0 => malformed(&mut self.rng, cell),
+            1 => Vec::new(),
+            2 => {
+                let other = self.rng.between(1, 65);
+                draft.get(other).to_vec()
+            }
+            // Something of the world: good today, or not.
+            3..=5 => {
+                let rng = &mut self.rng;
+                let world = &self.world;
+                match cell {
+                    4 | 6 | 26 | 27 => rng.of(&world.leis).to_vec(),
+                    7 | 12 | 16 | 21 if rng.one_in(2) => [b"LEI:", &rng.of(&world.leis)[..]].concat(),
+                    7 | 16 if rng.one_in(2) => [b"MIC:", &rng.of(&world.mics)[..]].concat(),
+                    7 | 12 | 16 | 21 => [b"NIDN:", &rng.of(&world.countries)[..], b"X1"].concat(),
+                    8 | 17 | 37 | 58 | 60 => rng.of(&world.countries).to_vec(),
+                    31 | 34 | 39 | 44 | 52 => rng.of(&world.currencies).to_vec(),
+                    45 => [b"FX:", &rng.of(&world.currencies)[..]].concat(),
+                    36 => rng.of(&world.mics).to_vec(),
+                    41 => rng.of(&world.isins).to_vec(),
+                    43 => super::classes::any_class(rng).to_vec(),
+                    28 => {
+                        let day = rng.of(&[t, world.t, world.s]);
+                        let near = rng.of(&[day.previous(), Some(day), day.next()]).unwrap_or(day);
+                        timestamp(rng, near, 43_200_000_000).into_bytes()
+                    }
+                    _ => well_formed(rng, cell),
+                }
+            }
+            _ => well_formed(&mut self.rng, cell),
+        };
+        draft.set(cell, value);
+    }
+
+    /// Now and then bytes changed anywhere: in the rows of a list, in the register, in the line, in the moment.
+    fn disturb(&mut self, case: &mut Case) {
+        let rng = &mut self.rng;
+        match rng.below(16) {
+            0 => {
+                let list = rng.below(5);
+                let mut bytes = case.lists[list].to_vec();
+                for _ in 0..rng.between(1, 40) {
+                    let place = rng.between(9, bytes.len() - 1);
+                    bytes[place] = rng.of(&[0, 1, 2, 3, 4, 5, b'A', b'X', 0x34, 0xff]);
+                }
+                case.lists[list] = bytes.into();
+            }
+            1 => {
+                for _ in 0..rng.between(1, 5) {
+                    let place = rng.below(case.register.len());
+                    case.register[place] = rng.of(&[0, 1, 2, b'A', b'0', 0xff]);
+                }
+            }
+            2 if !case.line.is_empty() => {
+                for _ in 0..rng.between(1, 4) {
+                    let place = rng.below(case.line.len());
+                    match rng.below(3) {
+                        0 => case.line[place] = rng.of(b"0A:|\0\xff .-#"),
+                        1 => case.line.insert(place, rng.of(b"0A:|\0\xff .-#")),
+                        _ => {
+                            case.line.remove(place);
+                            if case.line.is_empty() {
+                                return;
+                            }
+                        }
+                    }
+                }
+                case.line.truncate(LONGEST_LINE);
+            }
+            3 => {
+                let day =
+                    Day::new(rng.of(&[20180103, 20180102, 20230103, 20250322, 19991231, 20400101])).expect("real");
+                case.day = day.number();
+                case.micro = rng.next() % MICROS;
+            }
+            4 => {
+                let entries = rng.between(130, 145);
+                case.findings = vec![FILLER; entries];
+            }
+            _ => {}
+        }
+    }
+}

@@ -1,0 +1,648 @@
+//! Lines in the making, and clean ones to start from.
+
+use crate::file::{Case, FILLER, LONGEST_REGISTER};
+use crate::reference::{Day, MICROS};
+
+use super::classes::{any_class, needs, Need, Needs};
+use super::rng::{Rng, ALPHANUMERIC, CAPITALS, CODE, DIGITS};
+use super::values;
+use super::world::{make_lei, Venue, World, ANY_STATUS, EARLY, LATE, NOT_LAPSED};
+
+/// A call in the making: the cells of its line, its moment and how the register is to know the pair.
+#[derive(Clone)]
+pub struct Draft {
+    cells: Vec<Vec<u8>>,
+    pub t: Day,
+    pub s: Day,
+    pub micro: u64,
+    /// The states of the pair's own rows, in order; none where it is not in the register.
+    pub states: Vec<u8>,
+    /// The register has no room for another row.
+    pub full: bool,
+}
+
+impl Draft {
+    pub fn get(&self, cell: usize) -> &[u8] {
+        &self.cells[cell - 1]
+    }
+
+    pub fn set(&mut self, cell: usize, value: impl AsRef<[u8]>) {
+        self.cells[cell - 1] = value.as_ref().to_vec();
+    }
+
+    pub fn blank(&mut self, cell: usize) {
+        self.cells[cell - 1].clear();
+    }
+
+    pub fn is_blank(&self, cell: usize) -> bool {
+        self.get(cell).is_empty()
+    }
+
+    /// The line.
+    pub fn line(&self) -> Vec<u8> {
+        self.cells.join(&b'|')
+    }
+
+    /// The 73 bytes of the pair, if its cells have lengths for it.
+    fn pair(&self) -> Option<[u8; 73]> {
+        let (entity, reference) = (self.get(4), self.get(2));
+        if entity.len() != 20 || reference.len() > 52 {
+            return None;
+        }
+        let mut pair = [0; 73];
+        pair[..20].copy_from_slice(entity);
+        pair[20] = reference.len() as u8;
+        pair[21..21 + reference.len()].copy_from_slice(reference);
+        Some(pair)
+    }
+}
+
+/// What a clean line shall be like; anything where nothing is said.
+#[derive(Clone, Default)]
+pub struct Want {
+    pub t: Option<Day>,
+    pub s: Option<Day>,
+    pub micro: Option<u64>,
+    /// The microsecond of cell 28.
+    pub time: Option<u64>,
+    pub capacity: Option<&'static [u8]>,
+    pub entity: Option<[u8; 20]>,
+    pub firm: Option<bool>,
+    pub submitter: Option<[u8; 20]>,
+    pub venue: Option<fn(&Venue) -> bool>,
+    pub instrument: Option<Instrument>,
+}
+
+/// How the instrument is given.
+#[derive(Clone, Copy, PartialEq, Eq)]
+pub enum Instrument {
+    /// By cell 41 in the list, cell 43 blank.
+    Listed([u8; 12]),
+    /// By this classification; cell 41 is blank or not in the list on T.
+    Class([u8; 6]),
+    /// By neither.
+    Nothing,
+}
+
+pub const NO_DEAL: &[&[u8]] = &[b"AOTC", b"MTCH"];
+
+/// yyyy-mm-dd.
+pub fn date(day: Day) -> String {
+    let number = day.number();
+    format!("{:04}-{:02}-{:02}", number / 10_000, number / 100 % 100, number % 100)
+}
+
+/// A day between two others, both included.
+pub fn day_between(rng: &mut Rng, low: Day, high: Day) -> Day {
+    for _ in 0..20 {
+        let year = rng.between(low.number() as usize / 10_000, high.number() as usize / 10_000);
+        let number = year * 10_000 + rng.between(1, 12) * 100 + rng.between(1, 31);
+        match Day::new(number as u32) {
+            Some(day) if low <= day && day <= high => return day,
+            _ => {}
+        }
+    }
+    if rng.one_in(2) {
+        low
+    } else {
+        high
+    }
+}
+
+pub fn earliest() -> Day {
+    Day::new(EARLY).expect("a real day")
+}
+
+pub fn latest() -> Day {
+    Day::new(LATE).expect("a real day")
+}
+
+/// So many days before, or the first day of all.
+pub fn days_before(day: Day, count: usize) -> Day {
+    (0..count).fold(day, |day, _| day.previous().unwrap_or(day))
+}
+
+/// Cell 28 for a day and a microsecond of it. Whole seconds may go without a fraction, and zeros at its end
+/// may be left out.
+pub fn timestamp(rng: &mut Rng, day: Day, micro: u64) -> String {
+    let (second, rest) = (micro / 1_000_000, micro % 1_000_000);
+    let mut fraction = format!("{rest:06}");
+    while fraction.len() > 1 && fraction.ends_with('0') && !rng.one_in(3) {
+        fraction.pop();
+    }
+    let fraction = if rest == 0 && !rng.one_in(3) { String::new() } else { format!(".{fraction}") };
+    format!("{}T{:02}:{:02}:{:02}{fraction}Z", date(day), second / 3600, second / 60 % 60, second % 60)
+}
+
+/// Names as they occur.
+const NAMES: &[&str] =
+    &["ANNA", "Jürgen", "Zoë", "O'NEILL", "Łukasz", "Αλέξης", "山田", "MUELLER", "de la Cruz", "Smith-Jones", "😀"];
+
+/// A party cell with the cells that go with it: first name, surname, date of birth.
+pub const PARTIES: [(usize, [usize; 2], usize); 4] =
+    [(7, [9, 10], 11), (12, [13, 14], 15), (16, [18, 19], 20), (21, [22, 23], 24)];
+
+/// Makes drafts within one world.
+pub struct Maker {
+    pub rng: Rng,
+    pub world: World,
+}
+
+impl Maker {
+    pub fn lei_where(&mut self, condition: impl Fn(&World, &[u8; 20]) -> bool) -> [u8; 20] {
+        let world = &self.world;
+        self.rng.of_those(&world.leis, |lei| condition(world, lei)).expect("such an LEI")
+    }
+
+    pub fn good_lei(&mut self, day: Day, statuses: &[u8]) -> [u8; 20] {
+        self.lei_where(|world, lei| world.lei_good(lei, day, statuses))
+    }
+
+    pub fn bad_lei(&mut self, day: Day, statuses: &[u8]) -> [u8; 20] {
+        self.lei_where(|world, lei| !world.lei_good(lei, day, statuses))
+    }
+
+    pub fn country(&mut self, day: Day, good: bool) -> [u8; 2] {
+        let world = &self.world;
+        self.rng.of_those(&world.countries, |key| world.country_good(key, day) == good).expect("such a country")
+    }
+
+    pub fn currency(&mut self, day: Day, good: bool, pre_euro_too: bool) -> [u8; 3] {
+        let world = &self.world;
+        self.rng
+            .of_those(&world.currencies, |key| world.currency_good(key, day, pre_euro_too) == good)
+            .expect("such a currency")
+    }
+
+    pub fn venue(&mut self, day: Day, condition: impl Fn(&Venue) -> bool) -> Option<Venue> {
+        let venues = self.world.venues(day);
+        self.rng.of_those(&venues, condition)
+    }
+
+    pub fn isin_where(&mut self, condition: impl Fn(&World, &[u8; 12]) -> bool) -> [u8; 12] {
+        let world = &self.world;
+        self.rng.of_those(&world.isins, |isin| condition(world, isin)).expect("such an ISIN")
+    }
+
+    /// A clean new line.
+    pub fn clean(&mut self, want: Want) -> Draft {
+        let s = want.s.unwrap_or(self.world.s);
+        let t = want.t.unwrap_or_else(|| {
+            if self.rng.one_in(5) {
+                let first = Day::new(20180103).expect("a real day").max(days_before(s, 1826));
+                day_between(&mut self.rng, first, s)
+            } else {
+                self.world.t
+            }
+        });
+        let rng = &mut self.rng;
+        let mut micro = want.micro.unwrap_or_else(|| {
+            let any = rng.next() % MICROS;
+            rng.of(&[0, 1, 43_200_000_000, MICROS - 1, any, any, any])
+        });
+        let time = want.time.unwrap_or_else(|| {
+            if t < s {
+                let any = rng.next() % MICROS;
+                rng.of(&[0, MICROS - 1, any, any / 1_000_000 * 1_000_000])
+            } else {
+                micro = micro.max(1);
+                rng.next() % micro
+            }
+        });
+        let mut draft = Draft { cells: vec![Vec::new(); 65], t, s, micro, states: Vec::new(), full: false };
+        draft.set(1, "NEW");
+        let length = rng.of(&[1, 8, 8, 20, 35, 51, 52]);
+        draft.set(2, rng.text(CODE, length));
+        draft.set(28, timestamp(rng, t, time));
+        // A cancelled pair may be reported again.
+        if rng.one_in(4) {
+            draft.states = rng.of(&[&[2][..], &[0], &[2, 2], &[2, 1], &[255]]).to_vec();
+        }
+
+        let capacity = want.capacity.unwrap_or_else(|| rng.of(&[&b"AOTC"[..], b"AOTC", b"MTCH", b"DEAL"]));
+        draft.set(29, capacity);
+        let firm = want.firm.unwrap_or_else(|| !rng.one_in(3));
+        draft.set(5, if firm { "TRUE" } else { "FALSE" });
+        let entity = want.entity.unwrap_or_else(|| self.good_lei(t, if firm { NOT_LAPSED } else { ANY_STATUS }));
+        draft.set(4, entity);
+        let submitter = want.submitter.unwrap_or_else(|| self.good_lei(s, ANY_STATUS));
+        draft.set(6, submitter);
+
+        let venue = self.set_venue(&mut draft, want.venue);
+        self.set_parties(&mut draft, &entity);
+        let transmitted = capacity == b"AOTC" && venue.off && self.rng.one_in(2);
+        draft.set(25, if transmitted { "TRUE" } else { "FALSE" });
+        self.set_decision(&mut draft);
+        self.set_instrument(&mut draft, &venue, want.instrument);
+        self.set_rest(&mut draft);
+        draft
+    }
+
+    fn set_venue(&mut self, draft: &mut Draft, wanted: Option<fn(&Venue) -> bool>) -> Venue {
+        let t = draft.t;
+        let venue =
+            self.venue(t, |venue| venue.usable() && wanted.is_none_or(|wanted| wanted(venue))).expect("such a venue");
+        draft.set(36, venue.mic);
+        if venue.wants_country() || (!venue.bars_country() && self.rng.one_in(2)) {
+            let country = self.country(t, true);
+            draft.set(37, country);
+        }
+        if !venue.bars_code() && self.rng.one_in(2) {
+            let code = self.rng.text(CODE, 12);
+            draft.set(3, code);
+        }
+        venue
+    }
+
+    /// Fills a party cell with someone good and a fitting date of birth.
+    pub fn set_party(&mut self, draft: &mut Draft, cell: usize) {
+        let t = draft.t;
+        let (_, names, birth_cell) = PARTIES[PARTIES.iter().position(|party| party.0 == cell).expect("a party cell")];
+        for cell in [names[0], names[1], birth_cell] {
+            draft.blank(cell);
+        }
+        let kinds: &[&str] = if cell == 7 || cell == 16 {
+            &["LEI:", "LEI:", "MIC:", "INTC", "CCPT:", "NIDN:", "CONCAT:", "CONCAT:"]
+        } else {
+            &["LEI:", "CCPT:", "NIDN:", "CONCAT:"]
+        };
+        let kind = self.rng.of(kinds);
+        let rest = match kind {
+            "LEI:" => self.good_lei(t, ANY_STATUS).to_vec(),
+            "MIC:" => self.venue(t, |venue| !venue.off && venue.wants_country()).expect("a venue").mic.to_vec(),
+            "INTC" => Vec::new(),
+            _ => self.set_person(draft, kind, names, birth_cell),
+        };
+        draft.set(cell, [kind.as_bytes(), &rest].concat());
+    }
+
+    fn set_person(&mut self, draft: &mut Draft, scheme: &str, names: [usize; 2], birth_cell: usize) -> Vec<u8> {
+        let country = self.country(draft.t, true);
+        let rng = &mut self.rng;
+        let birth = day_between(rng, earliest(), draft.t);
+        let mut identifier = values::well_shaped(rng, scheme, &country);
+        if scheme == "CONCAT:" {
+            identifier[2..10].copy_from_slice(birth.number().to_string().as_bytes());
+        }
+        if !rng.one_in(4) {
+            draft.set(birth_cell, date(birth));
+        }
+        for cell in names {
+            if !rng.one_in(4) {
+                draft.set(cell, rng.of(NAMES));
+            }
+        }
+        identifier
+    }
+
+    fn set_parties(&mut self, draft: &mut Draft, entity: &[u8; 20]) {
+        let t = draft.t;
+        self.set_party(draft, 7);
+        self.set_party(draft, 16);
+        if draft.get(29) == b"DEAL" {
+            let (cell, names, birth) = PARTIES[self.rng.of(&[0, 2])];
+            for cell in [names[0], names[1], birth] {
+                draft.blank(cell);
+            }
+            draft.set(cell, [b"LEI:", &entity[..]].concat());
+        }
+        for cell in [12, 21] {
+            if self.rng.one_in(4) {
+                self.set_party(draft, cell);
+            }
+        }
+        for cell in [8, 17] {
+            if self.rng.one_in(3) {
+                let country = self.country(t, true);
+                draft.set(cell, country);
+            }
+        }
+    }
+
+    /// Cells 26, 27, 57 and 59.
+    fn set_decision(&mut self, draft: &mut Draft) {
+        for cell in [26, 27] {
+            if self.rng.one_in(5) {
+                let lei = self.good_lei(draft.t, ANY_STATUS);
+                draft.set(cell, lei);
+            }
+        }
+        let needed = draft.get(29) == b"DEAL" && draft.is_blank(26) && draft.is_blank(27);
+        if needed || self.rng.one_in(4) {
+            let decision = self.decision();
+            draft.set(57, decision);
+        }
+        let execution = if self.rng.one_in(3) { b"NORE".to_vec() } else { self.decision() };
+        draft.set(59, execution);
+    }
+
+    /// A person or an algorithm, well formed for 57 and 59. No list is asked about them.
+    pub fn decision(&mut self) -> Vec<u8> {
+        let rng = &mut self.rng;
+        if rng.one_in(3) {
+            let length = rng.of(&[1, 6, 50]);
+            return [b"ALGO:", &rng.text(ALPHANUMERIC, length)[..]].concat();
+        }
+        let scheme = values::scheme(rng);
+        let country = if rng.one_in(3) { rng.of(&[*b"FI", *b"LV"]) } else { rng.array(CAPITALS) };
+        [scheme.as_bytes(), &values::well_shaped(rng, scheme, &country)].concat()
+    }
+
+    /// An ISIN that the list does not have on T.
+    pub fn unlisted(&mut self, t: Day) -> [u8; 12] {
+        self.isin_where(|world, isin| !world.instrument_listed(isin, t))
+    }
+
+    fn set_instrument(&mut self, draft: &mut Draft, venue: &Venue, wanted: Option<Instrument>) {
+        let t = draft.t;
+        let no_list = venue.mic == *b"XXXX";
+        let instrument = wanted.unwrap_or_else(|| match self.rng.below(8) {
+            0 => Instrument::Nothing,
+            1..=3 if !no_list => Instrument::Listed(self.isin_where(|world, isin| world.instrument_listed(isin, t))),
+            _ => Instrument::Class(any_class(&mut self.rng)),
+        });
+        if let Instrument::Listed(isin) = instrument {
+            draft.set(41, isin);
+        } else if self.rng.one_in(2) {
+            let isin = self.unlisted(t);
+            draft.set(41, isin);
+        }
+        match instrument {
+            Instrument::Class(class) => self.set_class(draft, class),
+            _ => self.set_amounts(draft, None),
+        }
+        if let Instrument::Listed(isin) = instrument {
+            // Now and then a classification stands beside the ISIN.
+            if wanted.is_none() && self.rng.one_in(4) {
+                let class = any_class(&mut self.rng);
+                self.set_class(draft, class);
+            }
+            self.suit_listed(draft, &isin);
+        }
+    }
+
+    /// Quantity, price and net amount that suit what the list says of an ISIN.
+    pub fn suit_listed(&mut self, draft: &mut Draft, isin: &[u8; 12]) {
+        let t = draft.t;
+        if self.world.listed_debt(isin, t) && draft.get(30).starts_with(b"UNT:") && draft.get(33).starts_with(b"PC:") {
+            let price = self.price(false);
+            draft.set(33, price);
+        }
+        if self.world.listed_bond(isin, t) && draft.is_blank(35) {
+            draft.set(35, "98765.43");
+        }
+    }
+
+    pub fn number(&mut self) -> String {
+        let rng = &mut self.rng;
+        match rng.below(4) {
+            0 => rng.between(1, 1_000_000).to_string(),
+            1 => format!("{}.{:02}", rng.between(1, 10_000), rng.below(100)),
+            2 => format!("{}.", rng.between(1, 99)),
+            _ => format!("0.{}", rng.between(1, 999)),
+        }
+    }
+
+    /// A price; in per cent or not in per cent.
+    pub fn price(&mut self, percent: bool) -> String {
+        let number = self.number();
+        if percent {
+            return format!("PC:{number}");
+        }
+        match self.rng.below(8) {
+            0 => "PNDG".to_string(),
+            1 => "NOAP".to_string(),
+            2 => format!("YLD:{number}"),
+            3 => format!("BP:{number}"),
+            4 => format!("MV:-{number}"),
+            5 => format!("MV:+{number}"),
+            _ => format!("MV:{number}"),
+        }
+    }
+
+    /// A quantity; in units or not.
+    pub fn quantity(&mut self, units: bool) -> String {
+        let number = self.number();
+        match (units, self.rng.one_in(2)) {
+            (true, _) => format!("UNT:{number}"),
+            (false, true) => format!("NOM:{number}"),
+            (false, false) => format!("MON:{number}"),
+        }
+    }
+
+    /// Cells 30, 33, 35 and 38.
+    fn set_amounts(&mut self, draft: &mut Draft, needs: Option<&Needs>) {
+        let units = self.rng.one_in(2);
+        let percent = !(units && needs.is_some_and(|needs| needs.debt)) && self.rng.one_in(3);
+        let (quantity, price) = (self.quantity(units), self.price(percent));
+        draft.set(30, quantity);
+        draft.set(33, price);
+        let must = |need: fn(&Needs) -> Need| needs.is_some_and(|needs| need(needs) == Need::Must);
+        if must(|needs| needs.net_amount) || self.rng.one_in(3) {
+            let number = self.number();
+            draft.set(35, number);
+        }
+        if must(|needs| needs.up_front) || self.rng.one_in(4) {
+            let number = self.number();
+            draft.set(38, format!("{}{number}", self.rng.of(&["", "+", "-"])));
+        }
+    }
+
+    /// Is the cell to be filled, by what a classification asks of it?
+    fn filled(&mut self, need: Need) -> bool {
+        match need {
+            Need::Must => true,
+            Need::Never => false,
+            Need::Free => self.rng.one_in(3),
+        }
+    }
+
+    /// Fills every cell as a classification asks for it.
+    pub fn set_class(&mut self, draft: &mut Draft, class: [u8; 6]) {
+        let needs = needs(class);
+        draft.set(43, class);
+        self.set_amounts(draft, Some(&needs));
+        for cell in 47..=56 {
+            if cell != 52 {
+                draft.blank(cell);
+            }
+        }
+        if needs.swap {
+            draft.set(
+                47,
+                self.rng.of(&["SWAP:", "SWAP:+{0:DE0005557508};-{0:BG11FOKAAT18}", "SWAP: +{0: DE000A2DASD4}"]),
+            );
+        } else if self.rng.one_in(3) {
+            draft.set(47, self.rng.of(&["OTHR:", "OTHR:{0: AT0000A1KVF2}", "SWAP:", "OTHR:~"]));
+        }
+        if self.filled(needs.index_name) {
+            draft.set(48, self.rng.of(&["{0:DAX 30}", "+{0:DAX 30};-{0:IBEX 35}", "X"]));
+        }
+        if self.filled(needs.index_term) {
+            draft.set(49, self.rng.of(&["{0: MNTH#3}", "+{0:DAYS#10};-{0:YEAR#1}", "~"]));
+        }
+        if self.filled(needs.option_type) {
+            let kind = needs.wanted_type.unwrap_or_else(|| self.rng.of(&["PUTO", "CALL", "OTHR"]));
+            draft.set(50, kind);
+        }
+        if self.filled(needs.strike) {
+            let percent = self.rng.one_in(4);
+            let strike = self.price(percent);
+            draft.set(51, strike);
+        }
+        if self.filled(needs.exercise) {
+            draft.set(53, self.rng.of(&["EURO", "AMER", "ASIA", "BERM", "OTHR"]));
+        }
+        for (cell, need) in [(54, needs.maturity), (55, needs.expiry)] {
+            if self.filled(need) {
+                let day = day_between(&mut self.rng, draft.t, latest());
+                draft.set(cell, date(day));
+            }
+        }
+        if let Some(delivery) = needs.wanted_delivery {
+            draft.set(56, delivery);
+        } else if self.rng.one_in(3) {
+            draft.set(56, self.rng.of(&["PHYS", "CASH", "OPTL"]));
+        }
+    }
+
+    /// Cells that hardly any rule reads.
+    fn set_rest(&mut self, draft: &mut Draft) {
+        let t = draft.t;
+        if self.rng.one_in(3) {
+            let currency = self.currency(t, true, true);
+            draft.set(31, currency);
+        }
+        for cell in [34, 44, 45, 52] {
+            if self.rng.one_in(3) {
+                let currency = self.currency(t, true, false);
+                let prefix = if cell == 45 { self.rng.of(&["FX:", "INTRST:"]) } else { "" };
+                draft.set(cell, [prefix.as_bytes(), &currency].concat());
+            }
+        }
+        for cell in [32, 39, 40, 42, 46, 58, 60, 61, 62, 63, 64] {
+            if self.rng.one_in(5) {
+                let value = values::well_formed(&mut self.rng, cell);
+                // Long ones are for the cases about them.
+                if value.len() <= 60 {
+                    draft.set(cell, value);
+                }
+            }
+        }
+        draft.set(65, self.rng.of(&["TRUE", "FALSE"]));
+    }
+
+    /// A clean cancellation. Cells that are not read hold anything.
+    pub fn cancellation(&mut self) -> Draft {
+        let (s, t) = (self.world.s, self.world.t);
+        let mut draft = self.clean(Want::default());
+        draft.micro = self.rng.next() % MICROS;
+        draft.set(1, "CXL");
+        draft.states = self.rng.of(&[&[1][..], &[1], &[1, 2], &[1, 1]]).to_vec();
+        let submitter = self.good_lei(s, ANY_STATUS);
+        draft.set(6, submitter);
+        if self.rng.one_in(3) {
+            let entity = self.bad_lei(t, ANY_STATUS);
+            draft.set(4, entity);
+        }
+        match self.rng.below(3) {
+            0 => (1..=65).filter(|cell| ![1, 2, 4, 6].contains(cell)).for_each(|cell| draft.blank(cell)),
+            1 => {
+                for _ in 0..self.rng.between(1, 10) {
+                    let cell = self.rng.between(7, 65);
+                    let value = values::malformed(&mut self.rng, cell);
+                    draft.set(cell, value);
+                }
+            }
+            _ => {}
+        }
+        draft
+    }
+
+    /// A register in which the pair has rows of these states, among rows of other pairs, some of them nearly
+    /// the same.
+    pub fn register(&mut self, draft: &Draft) -> Vec<u8> {
+        let pair = draft.pair();
+        let mut rows: Vec<[u8; 74]> = Vec::new();
+        let row = |pair: &[u8; 73], state: u8| {
+            let mut row = [state; 74];
+            row[..73].copy_from_slice(pair);
+            row
+        };
+        let others = self.rng.of(&[0, 0, 0, 0, 1, 1, 1, 1, 1, 2, 2, 2, 3, 3, 3, 6, 18]);
+        for _ in 0..others {
+            let other = self.other_pair(pair.as_ref());
+            let state = self.rng.of(&[0, 1, 1, 2, 3]);
+            rows.push(row(&other, state));
+        }
+        if let Some(pair) = &pair {
+            let mut places: Vec<usize> = draft.states.iter().map(|_| self.rng.below(rows.len() + 1)).collect();
+            places.sort_unstable();
+            for (before, (place, state)) in places.iter().zip(&draft.states).enumerate() {
+                rows.insert(place + before, row(pair, *state));
+            }
+        }
+        let used = rows.len();
+        if !draft.full {
+            // Bytes behind the used rows mean nothing, even where they look like the pair.
+            for _ in 0..self.rng.of(&[1, 1, 2, 5]) {
+                rows.push(match (self.rng.below(4), &pair) {
+                    (0, Some(pair)) => row(pair, self.rng.of(&[1, 2])),
+                    (1, _) => self.rng.bytes(74).try_into().expect("74 bytes"),
+                    _ => [0; 74],
+                });
+            }
+        }
+        let tail = self.rng.of(&[0, 0, 0, 1, 37, 73]);
+        let tail = self.rng.bytes(tail);
+        let register = [&b"TRN"[..], &1u16.to_le_bytes(), &(used as u32).to_le_bytes(), &rows.concat(), &tail].concat();
+        assert!(register.len() <= LONGEST_REGISTER);
+        register
+    }
+
+    /// Another pair, often nearly the same.
+    fn other_pair(&mut self, pair: Option<&[u8; 73]>) -> [u8; 73] {
+        let rng = &mut self.rng;
+        let mut other = [0; 73];
+        match pair {
+            Some(pair) if rng.one_in(2) => {
+                other = *pair;
+                let length = usize::from(pair[20]);
+                match rng.below(6) {
+                    // Another entity, another length, another last character, something after the end.
+                    0 => other[rng.below(20)] ^= 1,
+                    1 => other[20] = other[20].wrapping_add(1),
+                    2 => other[20] = other[20].wrapping_sub(1),
+                    3 if length > 0 => other[20 + length] ^= 1,
+                    4 if length < 52 => other[rng.between(21 + length, 72)] = rng.of(b"A\x01 0"),
+                    _ => other[72] ^= 0x40,
+                }
+            }
+            _ => {
+                other[..20].copy_from_slice(&make_lei(rng));
+                let length = rng.between(1, 52);
+                other[20] = length as u8;
+                other[21..21 + length].copy_from_slice(&rng.text(CODE, length));
+            }
+        }
+        other
+    }
+
+    /// The call of a draft, with a register made for it.
+    pub fn case(&mut self, draft: &Draft) -> Case {
+        let register = self.register(draft);
+        let entries = self.rng.of(&[137, 137, 137, 137, 137, 137, 137, 138, 150, 200]);
+        Case {
+            line: draft.line(),
+            lists: self.world.lists.clone(),
+            register,
+            day: draft.s.number(),
+            micro: draft.micro,
+            findings: vec![FILLER; entries],
+        }
+    }
+
+    pub fn digits(&mut self, length: usize) -> Vec<u8> {
+        self.rng.text(DIGITS, length)
+    }
+}

@@ -1,0 +1,613 @@
+//! For every rule, lines that just violate it and nothing else, and lines that just do not.
+
+use crate::reference::{Day, MICROS};
+
+use super::classes::{any_class, class_beside, class_of, needs, patterns, Need};
+use super::draft::{
+    date, day_between, days_before, earliest, latest, Draft, Instrument, Maker, Want, NO_DEAL, PARTIES,
+};
+use super::rng::{CAPITALS, CODE, DIGITS};
+use super::values::{badly_shaped, scheme, well_shaped};
+use super::world::{Venue, ANY_STATUS, NOT_LAPSED};
+
+/// The cells that a rule reads, beside cell 1.
+pub fn reads(code: u16) -> &'static [usize] {
+    match code {
+        23..=25 => &[2, 4],
+        30 => &[3, 28, 36],
+        40 | 41 => &[4, 5, 28],
+        60 => &[6],
+        70..=72 => &[7, 28],
+        73 => &[7, 11],
+        74 => &[7],
+        80 => &[8, 28],
+        110 => &[11, 28],
+        120 | 121 => &[12, 28],
+        122 => &[12, 15],
+        123 => &[12],
+        150 => &[15, 28],
+        160..=162 => &[16, 28],
+        163 => &[16, 20],
+        164 => &[16],
+        170 => &[17, 28],
+        200 => &[20, 28],
+        210 | 211 => &[21, 28],
+        212 => &[21, 24],
+        213 => &[21],
+        240 => &[24, 28],
+        251 => &[25, 29],
+        260 => &[26, 28],
+        270 => &[27, 28],
+        280 | 281 => &[28],
+        290 => &[4, 7, 16, 29],
+        310 => &[28, 31],
+        330 => &[30, 33, 43],
+        331 => &[28, 30, 33, 41],
+        340 => &[28, 34],
+        350 => &[35, 43],
+        351 => &[28, 35, 41],
+        360 => &[28, 36],
+        361 => &[28, 36, 41],
+        362 => &[25, 36],
+        370 | 372 => &[28, 36, 37],
+        371 => &[28, 37],
+        380 => &[38, 43],
+        440 => &[28, 44],
+        451 => &[28, 45],
+        473 => &[43, 47],
+        480 | 481 => &[43, 48],
+        490 => &[43, 49],
+        500..=502 => &[43, 50],
+        510 | 511 => &[43, 51],
+        520 => &[28, 52],
+        530 | 531 => &[43, 53],
+        540 | 542 => &[43, 54],
+        541 => &[28, 54],
+        550 | 551 => &[43, 55],
+        552 => &[28, 55],
+        560 => &[43, 56],
+        570 => &[26, 27, 29, 57],
+        _ => unreachable!("no rule {code}"),
+    }
+}
+
+/// The codes of the rules on the party in a cell: LEI, country, MIC, birth in CONCAT, shape, birth after T.
+fn party_codes(cell: usize) -> [u16; 6] {
+    match cell {
+        7 => [70, 71, 72, 73, 74, 110],
+        12 => [120, 121, 0, 122, 123, 150],
+        16 => [160, 161, 162, 163, 164, 200],
+        _ => [210, 211, 0, 212, 213, 240],
+    }
+}
+
+fn not_off(venue: &Venue) -> bool {
+    !venue.off
+}
+
+fn is_off(venue: &Venue) -> bool {
+    venue.off
+}
+
+fn is_xxxx(venue: &Venue) -> bool {
+    venue.mic == *b"XXXX"
+}
+
+fn any_venue(_: &Venue) -> bool {
+    true
+}
+
+impl Maker {
+    /// A clean line in which no one deals on own account.
+    fn plain(&mut self) -> Draft {
+        let capacity = Some(self.rng.of(NO_DEAL));
+        self.clean(Want { capacity, ..Want::default() })
+    }
+
+    /// A line that violates just this rule (`hit`) or just does not, with the codes that it shall give.
+    pub fn rule(&mut self, code: u16, hit: bool) -> (Draft, Vec<u16>) {
+        for (cell, _, birth_cell) in PARTIES {
+            if let Some(which) = party_codes(cell).iter().position(|c| *c == code) {
+                return self.party_rule(cell, birth_cell, which, hit);
+            }
+        }
+        match code {
+            23..=25 => self.register_rule(code, hit),
+            40 | 41 | 60 | 260 | 270 => self.entity_rule(code, hit),
+            30 | 360 | 361 | 362 | 370 | 372 => self.venue_rule(code, hit),
+            80 | 170 | 371 => {
+                let cell = [8, 17, 37][[80, 170, 371].iter().position(|c| *c == code).expect("one of them")];
+                let venue: fn(&Venue) -> bool = if cell == 37 { Venue::wants_country } else { any_venue };
+                let mut draft = self.clean(Want { venue: Some(venue), ..Want::default() });
+                let country = self.country(draft.t, !hit);
+                draft.set(cell, country);
+                (draft, codes(code, hit))
+            }
+            251 | 290 | 570 => self.capacity_rule(code, hit),
+            280 | 281 => self.time_rule(code, hit),
+            310 | 340 | 440 | 451 | 520 => {
+                let mut draft = self.clean(Want::default());
+                let cell = match code {
+                    310 => 31,
+                    340 => 34,
+                    440 => 44,
+                    451 => 45,
+                    _ => 52,
+                };
+                let currency = self.currency(draft.t, !hit, code == 310);
+                let prefix = if cell == 45 { self.rng.of(&["FX:", "INTRST:"]) } else { "" };
+                draft.set(cell, [prefix.as_bytes(), &currency].concat());
+                (draft, codes(code, hit))
+            }
+            331 | 351 => self.list_rule(code, hit),
+            541 | 552 => self.date_rule(code, hit),
+            _ => {
+                let pattern = self.rng.of(patterns(code));
+                self.class_rule(code, pattern, hit)
+            }
+        }
+    }
+
+    /// 023, 024, 025.
+    fn register_rule(&mut self, code: u16, hit: bool) -> (Draft, Vec<u16>) {
+        let mut draft = if code == 23 { self.clean(Want::default()) } else { self.cancellation() };
+        let states: &[u8] = match (code, hit) {
+            (23, true) => self.rng.of(&[&[1][..], &[1], &[1, 2], &[1, 1], &[1, 0]]),
+            (23, false) => self.rng.of(&[&[2][..], &[0], &[3], &[255], &[2, 1], &[]]),
+            (24, true) => &[],
+            (25, true) => self.rng.of(&[&[2][..], &[0], &[3], &[255], &[2, 1], &[0, 1]]),
+            _ => self.rng.of(&[&[1][..], &[1, 2], &[1, 1]]),
+        };
+        draft.states = states.to_vec();
+        (draft, codes(code, hit))
+    }
+
+    /// LEIs in cells of their own.
+    fn entity_rule(&mut self, code: u16, hit: bool) -> (Draft, Vec<u16>) {
+        let (s, t) = (self.world.s, self.world.t);
+        let draft = match code {
+            40 | 41 => {
+                let firm = code == 40;
+                let statuses = if firm { NOT_LAPSED } else { ANY_STATUS };
+                let entity = if hit { self.bad_lei(t, statuses) } else { self.good_lei(t, statuses) };
+                // As buyer or seller, too, a lapsed one is good enough.
+                let capacity =
+                    if self.world.lei_good(&entity, t, ANY_STATUS) { None } else { Some(self.rng.of(NO_DEAL)) };
+                self.clean(Want { t: Some(t), firm: Some(firm), entity: Some(entity), capacity, ..Want::default() })
+            }
+            60 => {
+                let submitter = if hit { self.bad_lei(s, ANY_STATUS) } else { self.good_lei(s, ANY_STATUS) };
+                let mut draft = if self.rng.one_in(2) { self.cancellation() } else { self.clean(Want::default()) };
+                draft.set(6, submitter);
+                draft
+            }
+            _ => {
+                let mut draft = self.clean(Want { t: Some(t), ..Want::default() });
+                let lei = if hit { self.bad_lei(t, ANY_STATUS) } else { self.good_lei(t, ANY_STATUS) };
+                draft.set(usize::from(code / 10), lei);
+                draft
+            }
+        };
+        (draft, codes(code, hit))
+    }
+
+    /// The rules on a party and its date of birth.
+    fn party_rule(&mut self, cell: usize, birth_cell: usize, which: usize, hit: bool) -> (Draft, Vec<u16>) {
+        let all = party_codes(cell);
+        let code = all[which];
+        let mut draft = self.plain();
+        let t = draft.t;
+        self.set_party(&mut draft, cell);
+        match which {
+            0 => {
+                draft.blank(birth_cell);
+                let lei = if hit { self.bad_lei(t, ANY_STATUS) } else { self.good_lei(t, ANY_STATUS) };
+                draft.set(cell, [b"LEI:", &lei[..]].concat());
+            }
+            1 => {
+                draft.blank(birth_cell);
+                let scheme = scheme(&mut self.rng);
+                let country = self.country(t, !hit);
+                if !hit && self.rng.one_in(3) {
+                    // Not two capitals: no country, only the wrong shape.
+                    let start = self.rng.of(&["d", "A", "1E", "E1", "aB", "Ab", "#A", "  ", "A["]);
+                    draft.set(cell, [scheme, start, if start.len() == 2 { "123" } else { "" }].concat());
+                    return (draft, vec![all[4]]);
+                }
+                let identifier = well_shaped(&mut self.rng, scheme, &country);
+                draft.set(cell, [scheme.as_bytes(), &identifier].concat());
+            }
+            2 => {
+                draft.blank(birth_cell);
+                let venue = self.venue(t, |venue| (venue.off || !venue.wants_country()) == hit).expect("such a venue");
+                draft.set(cell, [b"MIC:", &venue.mic[..]].concat());
+            }
+            3 => return self.concat_rule(draft, cell, birth_cell, hit),
+            4 => {
+                draft.blank(birth_cell);
+                let scheme = scheme(&mut self.rng);
+                let country = if self.rng.one_in(2) { self.rng.of(&[*b"FI", *b"LV"]) } else { self.country(t, true) };
+                let identifier = if hit {
+                    // The date in it does not matter then.
+                    if self.rng.one_in(2) {
+                        draft.set(birth_cell, date(earliest()));
+                    }
+                    badly_shaped(&mut self.rng, scheme, &country)
+                } else {
+                    well_shaped(&mut self.rng, scheme, &country)
+                };
+                draft.set(cell, [scheme.as_bytes(), &identifier].concat());
+            }
+            _ => {
+                let birth = if !hit {
+                    t
+                } else if self.rng.one_in(2) {
+                    t.next().unwrap_or(t)
+                } else {
+                    day_between(&mut self.rng, t, latest())
+                };
+                if draft.get(cell).starts_with(b"CONCAT:") {
+                    let mut value = draft.get(cell).to_vec();
+                    value[9..17].copy_from_slice(birth.number().to_string().as_bytes());
+                    draft.set(cell, value);
+                }
+                // A decision maker's date may stand alone.
+                if (cell == 12 || cell == 21) && self.rng.one_in(3) {
+                    draft.blank(cell);
+                }
+                draft.set(birth_cell, date(birth));
+                return (draft, codes(code, birth > t));
+            }
+        }
+        (draft, codes(code, hit))
+    }
+
+    /// 073 and its like.
+    fn concat_rule(&mut self, mut draft: Draft, cell: usize, birth_cell: usize, hit: bool) -> (Draft, Vec<u16>) {
+        let all = party_codes(cell);
+        let t = draft.t;
+        let country = self.country(t, true);
+        let birth = day_between(&mut self.rng, earliest().next().expect("a next day"), t);
+        let mut identifier = well_shaped(&mut self.rng, "CONCAT:", &country);
+        identifier[2..10].copy_from_slice(birth.number().to_string().as_bytes());
+        draft.set(birth_cell, date(birth));
+        let mut found = Vec::new();
+        if hit {
+            found.push(all[3]);
+            match self.rng.below(4) {
+                // Another day in the cell, another in the identifier, no real day in the identifier.
+                0 => draft.set(birth_cell, date(birth.previous().expect("not the first day"))),
+                1 => {
+                    let place = self.rng.between(2, 9);
+                    identifier[place] = b'0' + (identifier[place] - b'0' + self.rng.between(1, 9) as u8) % 10;
+                }
+                2 => identifier[2..10].copy_from_slice(self.rng.of(&[
+                    b"00000000",
+                    b"20230229",
+                    b"19991301",
+                    b"99999999",
+                ])),
+                _ => identifier[2..10].reverse(),
+            }
+            if identifier[2..10] == *date(birth).replace('-', "").as_bytes() {
+                draft.set(birth_cell, date(birth.previous().expect("not the first day")));
+            }
+        } else {
+            match self.rng.below(4) {
+                // No date, another scheme, a wrong shape: then the date is not compared.
+                0 => {
+                    draft.blank(birth_cell);
+                    identifier[2..10].copy_from_slice(&self.digits(8));
+                }
+                1 => {
+                    let other = [&country[..], &self.rng.text(DIGITS, 8), &self.rng.text(CAPITALS, 10)].concat();
+                    draft.set(cell, [self.rng.of(&["CCPT:", "NIDN:"]).as_bytes(), &other].concat());
+                    return (draft, found);
+                }
+                2 => {
+                    draft.set(birth_cell, date(earliest()));
+                    identifier[10] = b'#';
+                    found.push(all[4]);
+                }
+                _ => {}
+            }
+        }
+        draft.set(cell, [b"CONCAT:", &identifier[..]].concat());
+        (draft, found)
+    }
+
+    /// The rules on cell 36 and what goes with it.
+    fn venue_rule(&mut self, code: u16, hit: bool) -> (Draft, Vec<u16>) {
+        let t = self.world.t;
+        let want = |venue: fn(&Venue) -> bool| Want { t: Some(t), venue: Some(venue), ..Want::default() };
+        match code {
+            30 => {
+                let mut draft = self.clean(want(if hit { Venue::bars_code } else { |venue| !venue.bars_code() }));
+                let code_given = self.rng.text(CODE, 10);
+                draft.set(3, code_given);
+                (draft, codes(code, hit))
+            }
+            360 => {
+                let mut draft = self.clean(want(any_venue));
+                if hit {
+                    let venue = self.venue(t, |venue| !venue.known()).expect("an unknown venue");
+                    draft.set(36, venue.mic);
+                    draft.set(25, "FALSE");
+                    draft.set(3, "ABC");
+                }
+                (draft, codes(code, hit))
+            }
+            361 => {
+                // Off any venue under XXXX; the instrument is in the list on T, or under XOFF, or on another day.
+                let xoff = self.world.venue(*b"XOFF", t).usable() && !hit && self.rng.one_in(2);
+                let listed = hit || xoff;
+                let venue: fn(&Venue) -> bool = if xoff { |venue| venue.mic == *b"XOFF" } else { is_xxxx };
+                let mut draft = self.clean(want(venue));
+                let isin = self.isin_where(|world, isin| world.instrument_listed(isin, t) == listed);
+                draft.set(41, isin);
+                self.suit_listed(&mut draft, &isin);
+                (draft, codes(code, hit))
+            }
+            362 => {
+                let mut want = want(if hit { not_off } else { is_off });
+                want.capacity = Some(b"AOTC");
+                let mut draft = self.clean(want);
+                draft.set(25, "TRUE");
+                (draft, codes(code, hit))
+            }
+            370 => {
+                // Kind 1 or 3 wants a country, whatever else the venue is.
+                let mut draft = self.clean(want(any_venue));
+                let venue = self.venue(t, |venue| venue.known() && venue.wants_country() == hit).expect("a venue");
+                self.change_venue(&mut draft, &venue);
+                draft.blank(37);
+                (draft, codes(code, hit))
+            }
+            _ => {
+                let mut draft = self.clean(want(any_venue));
+                let venue = self.venue(t, |venue| venue.known() && venue.bars_country() == hit).expect("a venue");
+                self.change_venue(&mut draft, &venue);
+                let country = self.country(t, true);
+                draft.set(37, country);
+                (draft, codes(code, hit))
+            }
+        }
+    }
+
+    /// Puts another venue into a line, with nothing beside cell 37 against it.
+    fn change_venue(&mut self, draft: &mut Draft, venue: &Venue) {
+        draft.set(36, venue.mic);
+        draft.blank(3);
+        draft.set(25, "FALSE");
+        if venue.mic == *b"XXXX" {
+            let isin = self.unlisted(draft.t);
+            draft.set(41, isin);
+        }
+    }
+
+    /// 251, 290, 570.
+    fn capacity_rule(&mut self, code: u16, hit: bool) -> (Draft, Vec<u16>) {
+        let deal = Some(&b"DEAL"[..]);
+        match code {
+            251 => {
+                let capacity: &[u8] = match (hit, self.rng.one_in(2)) {
+                    (false, true) => b"AOTC",
+                    (_, true) => b"MTCH",
+                    (_, false) => b"DEAL",
+                };
+                let mut draft = self.clean(Want { capacity: Some(capacity), venue: Some(is_off), ..Want::default() });
+                draft.set(25, if hit || capacity == b"AOTC" { "TRUE" } else { "FALSE" });
+                (draft, codes(code, hit))
+            }
+            290 => {
+                if !hit && self.rng.one_in(3) {
+                    return (self.plain(), Vec::new());
+                }
+                let mut draft = self.clean(Want { capacity: deal, ..Want::default() });
+                if hit {
+                    let own = [b"LEI:", draft.get(4)].concat();
+                    for cell in [7, 16] {
+                        while draft.get(cell) == own {
+                            self.set_party(&mut draft, cell);
+                        }
+                    }
+                }
+                (draft, codes(code, hit))
+            }
+            _ => {
+                let capacity = if !hit && self.rng.one_in(3) { Some(self.rng.of(NO_DEAL)) } else { deal };
+                let mut draft = self.clean(Want { capacity, ..Want::default() });
+                for cell in [26, 27, 57] {
+                    draft.blank(cell);
+                }
+                if !hit && capacity == deal {
+                    let lei = self.good_lei(draft.t, ANY_STATUS);
+                    let decision = self.decision();
+                    match self.rng.below(3) {
+                        0 => draft.set(26, lei),
+                        1 => draft.set(27, lei),
+                        _ => draft.set(57, decision),
+                    }
+                }
+                (draft, codes(code, hit))
+            }
+        }
+    }
+
+    /// 280 and 281.
+    fn time_rule(&mut self, code: u16, hit: bool) -> (Draft, Vec<u16>) {
+        let day = |number| Day::new(number).expect("a real day");
+        let rng = &mut self.rng;
+        let want = if code == 280 {
+            let s = self.world.s;
+            let any = rng.next() % (MICROS - 1);
+            let micro = rng.of(&[any, any / 1_000_000 * 1_000_000, 1, MICROS - 2, 43_200_000_000]).max(1);
+            let (t, micro, time) = match (hit, s.next()) {
+                (true, Some(next)) if rng.one_in(3) => (next, micro, rng.of(&[0, any])),
+                (true, _) if rng.one_in(2) => (s, micro, micro),
+                (true, _) => (s, micro, rng.between(micro as usize, MICROS as usize - 1) as u64),
+                (false, _) if rng.one_in(2) => (s, micro + 1, micro),
+                (false, _) => (s, micro, micro - 1),
+            };
+            Want { s: Some(s), t: Some(t), micro: Some(micro), time: Some(time), ..Want::default() }
+        } else {
+            let first = day(20180103);
+            let (s, t) = match (hit, rng.below(3)) {
+                // Five years and a day before; the day before the first; long before.
+                (true, 0) => {
+                    let s = day_between(rng, day(20230105), day(20401231));
+                    (s, days_before(s, 1827))
+                }
+                (true, 1) => (day_between(rng, first, day(20230102)), day(20180102)),
+                (true, _) => {
+                    let s = day_between(rng, first, latest());
+                    let last = days_before(s, 1827).max(day(20180102));
+                    (s, day_between(rng, earliest(), last))
+                }
+                (false, 0) => (day_between(rng, day(20180104), day(20230103)), first),
+                (false, _) => {
+                    let s = day_between(rng, day(20230103), latest());
+                    (s, days_before(s, 1826))
+                }
+            };
+            Want { s: Some(s), t: Some(t), ..Want::default() }
+        };
+        (self.clean(want), codes(code, hit))
+    }
+
+    /// 331 and 351: by the list, cell 43 aside.
+    fn list_rule(&mut self, code: u16, hit: bool) -> (Draft, Vec<u16>) {
+        let t = self.world.t;
+        let condition = |world: &super::world::World, isin: &[u8; 12]| {
+            (if code == 331 { world.listed_debt(isin, t) } else { world.listed_bond(isin, t) }) == hit
+        };
+        let isin = self.isin_where(condition);
+        let want = Want { t: Some(t), venue: Some(|venue| !is_xxxx(venue)), ..Want::default() };
+        let mut draft = self.clean(Want { instrument: Some(Instrument::Listed(isin)), ..want });
+        if self.rng.one_in(3) {
+            // A classification in the line makes no difference, unless it speaks of debt itself.
+            let class = any_class(&mut self.rng);
+            if class[0] != b'D' {
+                self.set_class(&mut draft, class);
+                self.suit_listed(&mut draft, &isin);
+            }
+        }
+        if code == 331 {
+            let (quantity, price) = (self.quantity(true), self.price(true));
+            draft.set(30, quantity);
+            draft.set(33, price);
+        } else {
+            draft.blank(35);
+            // Not in units, so that 331 has nothing to say.
+            let quantity = self.quantity(false);
+            draft.set(30, quantity);
+        }
+        (draft, codes(code, hit))
+    }
+
+    /// 541 and 552: dates before T, whatever the classification.
+    fn date_rule(&mut self, code: u16, hit: bool) -> (Draft, Vec<u16>) {
+        let (cell, needing) = if code == 541 { (54, 540) } else { (55, 550) };
+        let instrument = if self.rng.one_in(2) {
+            Instrument::Nothing
+        } else {
+            let pattern = self.rng.of(patterns(needing));
+            Instrument::Class(class_of(&mut self.rng, pattern))
+        };
+        let mut draft = self.clean(Want { instrument: Some(instrument), ..Want::default() });
+        let day = match (hit, self.rng.one_in(2)) {
+            (true, true) => draft.t.previous().expect("after 1900"),
+            (true, false) => day_between(&mut self.rng, earliest(), draft.t.previous().expect("after 1900")),
+            (false, _) => draft.t,
+        };
+        draft.set(cell, date(day));
+        (draft, codes(code, hit))
+    }
+
+    /// The rules by classification: a class of a pattern, or one beside it, and the cell as the rule does not
+    /// want it.
+    pub fn class_rule(&mut self, code: u16, pattern: &str, hit: bool) -> (Draft, Vec<u16>) {
+        // Without a violation: often the class beside, sometimes the class itself and all as it should be.
+        if !hit && self.rng.one_in(4) {
+            let class = class_of(&mut self.rng, pattern);
+            return (self.clean(Want { instrument: Some(Instrument::Class(class)), ..Want::default() }), Vec::new());
+        }
+        let class = if hit { class_of(&mut self.rng, pattern) } else { class_beside(&mut self.rng, pattern) };
+        let needs = needs(class);
+        let mut draft = self.clean(Want { instrument: Some(Instrument::Class(class)), ..Want::default() });
+        let later = date(day_between(&mut self.rng, draft.t, latest()));
+        let found = match code {
+            330 => {
+                let (quantity, price) = (self.quantity(true), self.price(true));
+                draft.set(30, quantity);
+                draft.set(33, price);
+                codes(330, needs.debt)
+            }
+            350 => must(&mut draft, 35, needs.net_amount, code),
+            380 => must(&mut draft, 38, needs.up_front, code),
+            473 => {
+                draft.set(47, self.rng.of(&["", "OTHR:", "OTHR:{0: AT0000A1KVF2}", "OTHR:SWAP:"]));
+                codes(473, needs.swap)
+            }
+            480 => must(&mut draft, 48, needs.index_name, code),
+            481 => never(&mut draft, 48, needs.index_name, code, "DAX"),
+            490 => must(&mut draft, 49, needs.index_term, code),
+            500 => must(&mut draft, 50, needs.option_type, code),
+            501 => {
+                let kind = needs.wanted_type.unwrap_or_else(|| self.rng.of(&["PUTO", "CALL", "OTHR"]));
+                never(&mut draft, 50, needs.option_type, code, kind)
+            }
+            502 => {
+                let wanted = needs.wanted_type;
+                let kind = self.rng.of_those(&["PUTO", "CALL", "OTHR"], |kind| Some(*kind) != wanted).expect("another");
+                draft.set(50, kind);
+                match (needs.option_type, wanted) {
+                    (Need::Never, _) => vec![501],
+                    (_, Some(_)) => vec![502],
+                    (_, None) => Vec::new(),
+                }
+            }
+            510 => must(&mut draft, 51, needs.strike, code),
+            511 => {
+                let price = self.price(false);
+                never(&mut draft, 51, needs.strike, code, &price)
+            }
+            530 => must(&mut draft, 53, needs.exercise, code),
+            531 => never(&mut draft, 53, needs.exercise, code, "EURO"),
+            540 => must(&mut draft, 54, needs.maturity, code),
+            542 => never(&mut draft, 54, needs.maturity, code, &later),
+            550 => must(&mut draft, 55, needs.expiry, code),
+            551 => never(&mut draft, 55, needs.expiry, code, &later),
+            560 => {
+                let wanted = needs.wanted_delivery.unwrap_or("");
+                let delivery = self.rng.of_those(&["", "PHYS", "CASH", "OPTL"], |d| *d != wanted).expect("another");
+                draft.set(56, delivery);
+                codes(560, !wanted.is_empty())
+            }
+            _ => unreachable!("no rule {code}"),
+        };
+        assert!(!hit || found == [code], "{code}: {found:?}");
+        (draft, found)
+    }
+}
+
+/// The code alone, or none.
+fn codes(code: u16, hit: bool) -> Vec<u16> {
+    if hit {
+        vec![code]
+    } else {
+        Vec::new()
+    }
+}
+
+/// Blanks a cell; a finding where it must be filled.
+fn must(draft: &mut Draft, cell: usize, need: Need, code: u16) -> Vec<u16> {
+    draft.blank(cell);
+    codes(code, need == Need::Must)
+}
+
+/// Fills a cell; a finding where it must be blank.
+fn never(draft: &mut Draft, cell: usize, need: Need, code: u16, value: &str) -> Vec<u16> {
+    draft.set(cell, value);
+    codes(code, need == Need::Never)
+}

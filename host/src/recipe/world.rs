@@ -1,0 +1,512 @@
+//! The lists that cases are judged against, made around a trading day T and a submission day S: keys that are
+//! good on every day, keys that become or cease to be good on T or S or the day beside, and keys that are never
+//! good. What is good is said here a second time, by plain scans over the rows.
+
+use crate::file::{List, LISTS, LONGEST_LIST};
+use crate::reference::Day;
+
+use super::rng::{Rng, CAPITALS, CODE};
+
+pub const EARLY: u32 = 19000101;
+pub const LATE: u32 = 99991231;
+
+pub const ANY_STATUS: &[u8] = &[1, 2, 3, 4];
+pub const NOT_LAPSED: &[u8] = &[1, 3, 4];
+
+/// The special currency codes.
+pub const SPECIAL: [[u8; 3]; 12] =
+    [*b"XAG", *b"XAU", *b"XBA", *b"XBB", *b"XBC", *b"XBD", *b"XDR", *b"XEU", *b"XFU", *b"XPD", *b"XPT", *b"XXX"];
+
+pub struct LeiRow {
+    key: [u8; 20],
+    status: u8,
+    entity: u8,
+    registered: u32,
+    updated: u32,
+}
+
+/// A row of any other list: a key, what stands behind it, and its days.
+pub struct Row<const KEY: usize, const MORE: usize> {
+    key: [u8; KEY],
+    more: [u8; MORE],
+    from: u32,
+    to: u32,
+}
+
+impl<const KEY: usize, const MORE: usize> Row<KEY, MORE> {
+    fn on(&self, day: Day) -> bool {
+        self.from <= day.number() && day.number() <= self.to
+    }
+
+    fn bytes(&self) -> Vec<u8> {
+        [&self.key[..], &self.more, &self.from.to_le_bytes(), &self.to.to_le_bytes()].concat()
+    }
+}
+
+/// A venue code and what it is on some day.
+#[derive(Clone, Copy, Debug)]
+pub struct Venue {
+    pub mic: [u8; 4],
+    /// XXXX or XOFF.
+    pub off: bool,
+    pub eea: bool,
+    pub internaliser: bool,
+    pub outside: bool,
+}
+
+impl Venue {
+    pub fn known(&self) -> bool {
+        self.off || self.eea || self.internaliser || self.outside
+    }
+
+    /// Cell 37 has to be filled.
+    pub fn wants_country(&self) -> bool {
+        self.eea || self.outside
+    }
+
+    /// Cell 37 has to be blank.
+    pub fn bars_country(&self) -> bool {
+        self.off || self.internaliser
+    }
+
+    /// Cell 3 has to be blank.
+    pub fn bars_code(&self) -> bool {
+        self.off || self.internaliser || self.outside
+    }
+
+    /// There is a way to fill the line for this venue.
+    pub fn usable(&self) -> bool {
+        self.known() && !(self.wants_country() && self.bars_country())
+    }
+}
+
+pub struct World {
+    pub s: Day,
+    pub t: Day,
+    lei_rows: Vec<LeiRow>,
+    cty_rows: Vec<Row<2, 0>>,
+    ccy_rows: Vec<Row<3, 1>>,
+    ven_rows: Vec<Row<4, 1>>,
+    ins_rows: Vec<Row<12, 6>>,
+    /// LEIs whose check digits are wrong.
+    wrong: Vec<[u8; 20]>,
+    /// Every key worth using, with or without a row.
+    pub leis: Vec<[u8; 20]>,
+    pub countries: Vec<[u8; 2]>,
+    pub currencies: Vec<[u8; 3]>,
+    pub mics: Vec<[u8; 4]>,
+    pub isins: Vec<[u8; 12]>,
+    pub lists: [List; LISTS],
+}
+
+/// Digits, with A as 10 to Z as 35.
+fn spread(text: &[u8]) -> String {
+    text.iter()
+        .map(|&byte| match byte {
+            b'0'..=b'9' => (byte - b'0').to_string(),
+            _ => (byte - b'A' + 10).to_string(),
+        })
+        .collect()
+}
+
+/// An LEI with right check digits.
+pub fn make_lei(rng: &mut Rng) -> [u8; 20] {
+    // Any start, or that of a real issuer.
+    let mut start = rng.array::<18>(CODE);
+    if rng.one_in(2) {
+        start[..6].copy_from_slice(b"529900");
+    }
+    let number: u128 = spread(&start).parse().expect("at most 36 digits");
+    let check = 98 - number % 97 * 100 % 97;
+    let mut lei = [0; 20];
+    lei[..18].copy_from_slice(&start);
+    lei[18..].copy_from_slice(format!("{check:02}").as_bytes());
+    lei
+}
+
+/// An ISIN with a right check digit.
+pub fn make_isin(rng: &mut Rng) -> [u8; 12] {
+    let mut isin = [0; 12];
+    isin[..2].copy_from_slice(&rng.array::<2>(CAPITALS));
+    let alphabet = if rng.one_in(2) { CODE } else { b"0123456789" };
+    isin[2..11].copy_from_slice(&rng.array::<9>(alphabet));
+    let sum: u32 = spread(&isin[..11])
+        .bytes()
+        .rev()
+        .map(|digit| u32::from(digit - b'0'))
+        .enumerate()
+        .map(|(place, digit)| if place % 2 == 0 { [0, 2, 4, 6, 8, 1, 3, 5, 7, 9][digit as usize] } else { digit })
+        .sum();
+    isin[11] = b'0' + ((10 - sum % 10) % 10) as u8;
+    isin
+}
+
+/// The number after or before that of a day, real or not.
+fn after(day: Day) -> u32 {
+    day.next().map_or(day.number() + 1, Day::number)
+}
+
+fn before(day: Day) -> u32 {
+    day.previous().map_or(day.number() - 1, Day::number)
+}
+
+impl World {
+    pub fn make(rng: &mut Rng) -> World {
+        let (s, t) = days(rng);
+        let mut world = World {
+            s,
+            t,
+            lei_rows: Vec::new(),
+            cty_rows: Vec::new(),
+            ccy_rows: Vec::new(),
+            ven_rows: Vec::new(),
+            ins_rows: Vec::new(),
+            wrong: Vec::new(),
+            leis: Vec::new(),
+            countries: Vec::new(),
+            currencies: Vec::new(),
+            mics: Vec::new(),
+            isins: Vec::new(),
+            lists: std::array::from_fn(|_| List::from([])),
+        };
+        world.add_leis(rng);
+        world.add_countries(rng);
+        world.add_currencies(rng);
+        world.add_venues(rng);
+        world.add_instruments(rng);
+        world.write(rng);
+        world
+    }
+
+    /// Spans that hold T, the first of them always.
+    fn spans_with_t(&self) -> [(u32, u32); 5] {
+        let t = self.t.number();
+        [(EARLY, LATE), (t, t), (EARLY, t), (t, LATE), (0, u32::MAX)]
+    }
+
+    /// Spans that do not hold T.
+    fn spans_without_t(&self) -> [(u32, u32); 5] {
+        [(EARLY, before(self.t)), (after(self.t), LATE), (after(self.t), before(self.t)), (LATE, EARLY), (0, 0)]
+    }
+
+    fn add_leis(&mut self, rng: &mut Rng) {
+        let (s, t) = (self.s, self.t);
+        let any = rng.of(&[0, EARLY, LATE]);
+        let mut sets: Vec<Vec<(u8, u8, u32, u32)>> = vec![
+            // Good on every day.
+            vec![(1, 1, EARLY, any)],
+            vec![(1, 1, 0, any)],
+            vec![(1, 1, EARLY, 0)],
+            vec![(2, 1, EARLY, any)],
+            vec![(2, 1, 0, LATE)],
+            vec![(3, 1, EARLY, any)],
+            vec![(4, 1, EARLY, any)],
+            vec![(1, 2, EARLY, LATE)],
+            vec![(rng.of(ANY_STATUS), 2, EARLY, u32::MAX)],
+            vec![(5, 1, EARLY, any), (1, 1, EARLY, any)],
+            vec![(1, 3, EARLY, any), (3, 1, EARLY, any)],
+            // At the edge of T.
+            vec![(rng.of(ANY_STATUS), 1, t.number(), any)],
+            vec![(rng.of(ANY_STATUS), 1, after(t), any)],
+            vec![(rng.of(ANY_STATUS), 2, EARLY, t.number())],
+            vec![(rng.of(ANY_STATUS), 2, EARLY, before(t))],
+            vec![(rng.of(ANY_STATUS), 2, t.number(), t.number())],
+            vec![(1, 1, after(t), any), (1, 2, EARLY, before(t))],
+            vec![(2, 1, EARLY, any), (1, 1, after(t), any)],
+            // At the edge of S.
+            vec![(rng.of(ANY_STATUS), 1, s.number(), any)],
+            vec![(rng.of(ANY_STATUS), 1, after(s), any)],
+            vec![(rng.of(ANY_STATUS), 2, EARLY, s.number())],
+            vec![(rng.of(ANY_STATUS), 2, EARLY, before(s))],
+            // Other bytes match nothing.
+            vec![(rng.of(&[0, 5, 9, 255]), 1, EARLY, any)],
+            vec![(1, rng.of(&[0, 3, 255]), EARLY, LATE)],
+            // Without a row.
+            vec![],
+            vec![],
+        ];
+        rng.shuffle(&mut sets);
+        for set in sets {
+            let key = make_lei(rng);
+            self.add_lei(key, &set);
+        }
+        // Good rows, wrong check digits.
+        for _ in 0..2 {
+            let mut key = make_lei(rng);
+            let place = rng.between(18, 19);
+            key[place] = b'0' + (key[place] - b'0' + rng.between(1, 9) as u8) % 10;
+            self.wrong.push(key);
+            self.add_lei(key, &[(1, 1, EARLY, any)]);
+        }
+    }
+
+    fn add_lei(&mut self, key: [u8; 20], rows: &[(u8, u8, u32, u32)]) {
+        self.leis.push(key);
+        for &(status, entity, registered, updated) in rows {
+            self.lei_rows.push(LeiRow { key, status, entity, registered, updated });
+        }
+    }
+
+    fn add_countries(&mut self, rng: &mut Rng) {
+        self.countries = vec![*b"DE", *b"FI", *b"LV", *b"FR", *b"GB"];
+        while self.countries.len() < 18 {
+            let key = rng.array(CAPITALS);
+            if !self.countries.contains(&key) {
+                self.countries.push(key);
+            }
+        }
+        let mut add = |key: [u8; 2], (from, to)| self.cty_rows.push(Row { key, more: [], from, to });
+        for key in &self.countries[..5] {
+            add(*key, (EARLY, LATE));
+        }
+        let t = self.t.number();
+        let spans = [
+            (t, t),
+            (EARLY, t),
+            (t, LATE),
+            (EARLY, before(self.t)),
+            (after(self.t), LATE),
+            (after(self.t), before(self.t)),
+            (LATE, EARLY),
+        ];
+        for (key, span) in self.countries[5..12].iter().zip(spans) {
+            add(*key, span);
+        }
+        // Two rows: neither holds T; one of them does.
+        add(self.countries[12], (EARLY, before(self.t)));
+        add(self.countries[12], (after(self.t), LATE));
+        add(self.countries[13], (after(self.t), LATE));
+        add(self.countries[13], (EARLY, t));
+        // The others have no row. Keys that no cell can hold do no harm.
+        add(rng.array(b"0aZ "), (EARLY, LATE));
+    }
+
+    fn add_currencies(&mut self, rng: &mut Rng) {
+        self.currencies = vec![*b"EUR", *b"USD", *b"GBP", *b"DEM", *b"FRF", *b"ITL"];
+        while self.currencies.len() < 18 {
+            let key = rng.array(CAPITALS);
+            if !SPECIAL.contains(&key) && !self.currencies.contains(&key) {
+                self.currencies.push(key);
+            }
+        }
+        let with = self.spans_with_t();
+        let without = self.spans_without_t();
+        let keys = self.currencies.clone();
+        let mut add = |key, kind, (from, to)| self.ccy_rows.push(Row { key, more: [kind], from, to });
+        for key in &keys[..3] {
+            add(*key, 1, (EARLY, LATE));
+        }
+        add(keys[3], 2, (19480620, 20011231));
+        add(keys[4], 2, without[rng.below(5)]);
+        add(keys[5], 2, with[rng.below(5)]);
+        for (key, span) in keys[6..].iter().zip([with[1], with[2], with[3], without[0], without[1], without[2]]) {
+            add(*key, 1, span);
+        }
+        add(keys[12], rng.of(&[0, 3, 255]), (EARLY, LATE));
+        add(keys[13], 1, without[0]);
+        add(keys[13], 2, without[1]);
+        add(keys[14], 2, without[0]);
+        add(keys[14], 1, with[1]);
+        // The others have no row. Special codes have one of either kind, some none.
+        for key in SPECIAL {
+            if !rng.one_in(4) {
+                add(key, rng.between(1, 2) as u8, (EARLY, LATE));
+            }
+        }
+        self.currencies.extend(SPECIAL);
+    }
+
+    fn add_venues(&mut self, rng: &mut Rng) {
+        self.mics = vec![*b"XXXX", *b"XOFF", *b"XETR", *b"XNYS"];
+        while self.mics.len() < 28 {
+            let key = rng.array(CODE);
+            if !self.mics.contains(&key) {
+                self.mics.push(key);
+            }
+        }
+        let with = self.spans_with_t();
+        let without = self.spans_without_t();
+        let keys = self.mics.clone();
+        let rows: Vec<Vec<(u8, (u32, u32))>> = vec![
+            vec![(1, with[0])],
+            vec![(3, with[0])],
+            vec![(2, with[0])],
+            vec![(1, with[rng.between(1, 4)])],
+            vec![(2, with[rng.between(1, 4)])],
+            vec![(3, with[rng.between(1, 4)])],
+            vec![(1, without[rng.below(5)])],
+            vec![(2, without[rng.below(5)])],
+            vec![(3, without[rng.below(5)])],
+            vec![(1, without[0]), (1, without[1])],
+            vec![(rng.of(&[0, 4, 255]), with[0])],
+            // More than one kind.
+            vec![(1, with[0]), (3, with[1])],
+            vec![(2, with[0]), (1, with[1])],
+            vec![(3, with[0]), (2, with[2])],
+            vec![(2, without[0]), (1, with[3])],
+            vec![(3, without[0]), (2, with[3])],
+            vec![(1, without[0]), (3, with[3])],
+            vec![(1, with[2]), (2, without[1])],
+            vec![(3, with[2]), (4, with[0])],
+        ];
+        for (key, set) in keys[2..].iter().zip(rows) {
+            for (kind, (from, to)) in set {
+                self.ven_rows.push(Row { key: *key, more: [kind], from, to });
+            }
+        }
+        // The last keys have no row. Now and then the codes for off-venue trades have one: XXXX as an
+        // internaliser at most, so that lines with it can still be clean.
+        if rng.one_in(3) {
+            let (from, to) = with[rng.below(5)];
+            self.ven_rows.push(Row { key: *b"XOFF", more: [rng.between(1, 3) as u8], from, to });
+        }
+        if rng.one_in(6) {
+            self.ven_rows.push(Row { key: *b"XXXX", more: [2], from: EARLY, to: LATE });
+        }
+    }
+
+    fn add_instruments(&mut self, rng: &mut Rng) {
+        let with = self.spans_with_t();
+        let without = self.spans_without_t();
+        let mut sets: Vec<Vec<([u8; 6], (u32, u32))>> = Vec::new();
+        for cfi in [b"ESVUFR", b"EPNRFR", b"CIOGES", b"RWSTCA", b"OCASPS", b"FFSPSX", b"SRCCSP"] {
+            sets.push(vec![(*cfi, with[rng.below(5)])]);
+        }
+        for start in [b"DB", b"DC", b"DT", b"DN", b"DB", b"DD", b"DE", b"DY", b"DA"] {
+            let mut cfi = rng.array(CAPITALS);
+            cfi[..2].copy_from_slice(start);
+            sets.push(vec![(cfi, with[rng.below(5)])]);
+        }
+        for start in [b"DB", b"DC", b"DT", b"DN"] {
+            let mut cfi = rng.array(CAPITALS);
+            cfi[..2].copy_from_slice(start);
+            sets.push(vec![(cfi, without[rng.below(5)])]);
+        }
+        sets.push(vec![(*b"ESVUFR", with[0]), (*b"DBFTFB", with[1])]);
+        sets.push(vec![(*b"DBFTFB", without[0]), (*b"DEFTFB", with[1])]);
+        sets.push(vec![(*b"ESVUFR", with[0]), (*b"DBFTFB", without[1])]);
+        sets.push(vec![(*b"ESVUFR", without[0]), (*b"DTFTFB", without[1])]);
+        // Bytes that are no capitals match no pattern.
+        for cfi in [b"DBFTF*", b"D*****", b"dBFTFB", b"DB12FB", b"DBFTF\0", b"DBFTF ", b"\xc4BFTFB"] {
+            sets.push(vec![(*cfi, with[0])]);
+        }
+        sets.push(vec![]);
+        sets.push(vec![]);
+        sets.push(vec![]);
+        for set in sets {
+            let key = make_isin(rng);
+            self.isins.push(key);
+            for (cfi, (from, to)) in set {
+                self.ins_rows.push(Row { key, more: cfi, from, to });
+            }
+        }
+    }
+
+    /// Writes the rows in any order, a few of them twice, now and then among as many others as a list may have.
+    fn write(&mut self, rng: &mut Rng) {
+        let filled = rng.one_in(8);
+        let lei = self.lei_rows.iter().map(|row| {
+            let days = [row.registered.to_le_bytes(), row.updated.to_le_bytes()].concat();
+            [&row.key[..], &[row.status, row.entity], &days].concat()
+        });
+        let rows: [Vec<Vec<u8>>; LISTS] = [
+            lei.collect(),
+            self.cty_rows.iter().map(Row::bytes).collect(),
+            self.ccy_rows.iter().map(Row::bytes).collect(),
+            self.ven_rows.iter().map(Row::bytes).collect(),
+            self.ins_rows.iter().map(Row::bytes).collect(),
+        ];
+        for ((list, mark), mut rows) in self.lists.iter_mut().zip(["LEI", "CTY", "CCY", "VEN", "INS"]).zip(rows) {
+            for _ in 0..rng.below(3) {
+                rows.push(rows[rng.below(rows.len())].clone());
+            }
+            let width = rows[0].len();
+            while filled && 9 + (rows.len() + 2) * width <= LONGEST_LIST {
+                // A key that no cell holds.
+                rows.push([&b"-"[..], &rng.bytes(width - 1)].concat());
+            }
+            rng.shuffle(&mut rows);
+            let count = (rows.len() as u32).to_le_bytes();
+            *list = [mark.as_bytes(), &1u16.to_le_bytes(), &count, &rows.concat()].concat().into();
+        }
+    }
+
+    pub fn lei_good(&self, lei: &[u8; 20], day: Day, statuses: &[u8]) -> bool {
+        let day = day.number();
+        !self.wrong.contains(lei)
+            && self.lei_rows.iter().any(|row| {
+                row.key == *lei
+                    && statuses.contains(&row.status)
+                    && row.registered <= day
+                    && (row.entity == 1 || (row.entity == 2 && row.updated >= day))
+            })
+    }
+
+    pub fn country_good(&self, country: &[u8; 2], day: Day) -> bool {
+        self.cty_rows.iter().any(|row| row.key == *country && row.on(day))
+    }
+
+    pub fn currency_good(&self, currency: &[u8; 3], day: Day, pre_euro_too: bool) -> bool {
+        !SPECIAL.contains(currency)
+            && self.ccy_rows.iter().filter(|row| row.key == *currency).any(|row| match row.more {
+                [1] => row.on(day),
+                [2] => pre_euro_too,
+                _ => false,
+            })
+    }
+
+    pub fn venue(&self, mic: [u8; 4], day: Day) -> Venue {
+        let is = |kind| self.ven_rows.iter().any(|row| row.key == mic && row.more == [kind] && row.on(day));
+        Venue { mic, off: [*b"XXXX", *b"XOFF"].contains(&mic), eea: is(1), internaliser: is(2), outside: is(3) }
+    }
+
+    pub fn venues(&self, day: Day) -> Vec<Venue> {
+        self.mics.iter().map(|mic| self.venue(*mic, day)).collect()
+    }
+
+    pub fn instrument_listed(&self, isin: &[u8; 12], day: Day) -> bool {
+        self.ins_rows.iter().any(|row| row.key == *isin && row.on(day))
+    }
+
+    fn listed_as(&self, isin: &[u8; 12], day: Day, starts: &[&str]) -> bool {
+        self.ins_rows.iter().any(|row| {
+            row.key == *isin
+                && row.on(day)
+                && row.more.iter().all(|letter| CAPITALS.contains(letter))
+                && starts.iter().any(|start| row.more.starts_with(start.as_bytes()))
+        })
+    }
+
+    pub fn listed_debt(&self, isin: &[u8; 12], day: Day) -> bool {
+        self.listed_as(isin, day, &["D"])
+    }
+
+    pub fn listed_bond(&self, isin: &[u8; 12], day: Day) -> bool {
+        self.listed_as(isin, day, &["DB", "DC", "DT", "DN"])
+    }
+}
+
+/// A submission day and a trading day for which lines can be clean.
+fn days(rng: &mut Rng) -> (Day, Day) {
+    const SPECIAL_DAYS: [u32; 16] = [
+        20180104, 20180703, 20200229, 20200301, 20230102, 20230103, 20230104, 20240229, 20240322, 20250322, 20280229,
+        20991231, 21000228, 21000301, 24000229, 99991231,
+    ];
+    let s = if rng.one_in(3) {
+        Day::new(rng.of(&SPECIAL_DAYS)).expect("real days")
+    } else {
+        loop {
+            let number = rng.between(2018, 2030) * 10_000 + rng.between(1, 12) * 100 + rng.between(1, 31);
+            match Day::new(number as u32) {
+                Some(day) if day.number() > 20180103 => break day,
+                _ => {}
+            }
+        }
+    };
+    let first = Day::new(20180103).expect("a real day");
+    let mut t = s;
+    for _ in 0..rng.of(&[0, 1, 2, 7, 30, 365, 1000, 1825, 1826]) {
+        t = t.previous().expect("after 1900");
+    }
+    (s, t.max(first))
+}

@@ -1,0 +1,155 @@
+//! The reference: what document 01 says of one call.
+//!
+//! `judge` takes a whole call, as it comes over the boundary. A service that judges many lines reads its lists
+//! and register once (`Lists::read`, `Register::open`) and calls `judge_line`.
+
+mod calendar;
+mod cfi;
+mod forms;
+mod lists;
+mod register;
+mod report;
+mod rules;
+mod verdict;
+
+pub use calendar::{Day, Moment, MICROS};
+pub use forms::{isin, lei_check, Decimal, Price, Quantity};
+pub use lists::{Lists, VenueKinds};
+pub use register::{capacity, Pair, Register, Standing};
+
+use report::{Cancellation, Report};
+use verdict::Verdict;
+
+use crate::codes;
+
+/// A legal entity identifier, well formed or not by its check digits.
+pub type Lei = [u8; 20];
+/// A market identifier.
+pub type Mic = [u8; 4];
+/// A securities identifier.
+pub type Isin = [u8; 12];
+
+/// The longest line that is read.
+pub const LONGEST_LINE: usize = 4096;
+/// The cells of a line.
+pub const CELLS: usize = 65;
+
+/// Why a call is refused; the numbers are those of document 01, and the lowest that applies is given.
+#[derive(Clone, Copy, Debug, PartialEq, Eq, PartialOrd, Ord)]
+#[repr(u16)]
+pub enum Refusal {
+    LeiList = 1,
+    CountryList = 2,
+    CurrencyList = 3,
+    VenueList = 4,
+    InstrumentList = 5,
+    Register = 6,
+    Moment = 7,
+    Findings = 8,
+    LongLine = 9,
+    Cells = 10,
+    RegisterFull = 11,
+}
+
+/// The answer to a call. The findings themselves and the register are in what the caller lent.
+#[derive(Clone, Copy, Debug, Default, PartialEq, Eq)]
+pub struct Outcome {
+    /// 0, or the number of the refusal.
+    pub answer: u16,
+    /// How many findings there are.
+    pub count: u16,
+    /// One bit for each code in rising order.
+    pub words: [u64; 3],
+}
+
+impl From<Refusal> for Outcome {
+    fn from(refusal: Refusal) -> Outcome {
+        Outcome { answer: refusal as u16, ..Outcome::default() }
+    }
+}
+
+/// One whole call.
+#[derive(Debug)]
+pub struct Call<'a> {
+    pub line: &'a [u8],
+    pub lei: &'a [u8],
+    pub cty: &'a [u8],
+    pub ccy: &'a [u8],
+    pub ven: &'a [u8],
+    pub ins: &'a [u8],
+    pub register: &'a mut [u8],
+    pub day: u32,
+    pub micro: u64,
+    pub findings: &'a mut [u16],
+}
+
+/// Judges one call.
+pub fn judge(call: Call) -> Outcome {
+    judge_or_refuse(call).unwrap_or_else(Outcome::from)
+}
+
+fn judge_or_refuse(call: Call) -> Result<Outcome, Refusal> {
+    let lists = Lists::read(call.lei, call.cty, call.ccy, call.ven, call.ins)?;
+    let mut register = Register::open(call.register)?;
+    let moment = Moment::new(call.day, call.micro).ok_or(Refusal::Moment)?;
+    Ok(judge_line(&lists, &mut register, moment, call.findings, call.line))
+}
+
+/// Judges one line against lists and a register that were read before.
+pub fn judge_line(
+    lists: &Lists,
+    register: &mut Register,
+    moment: Moment,
+    findings: &mut [u16],
+    line: &[u8],
+) -> Outcome {
+    if findings.len() < codes::COUNT {
+        return Refusal::Findings.into();
+    }
+    if line.len() > LONGEST_LINE {
+        return Refusal::LongLine.into();
+    }
+    let Some(cells) = split(line) else { return Refusal::Cells.into() };
+
+    let mut verdict = Verdict::default();
+    match cells[0] {
+        b"NEW" => {
+            let report = Report::read(&cells, &mut verdict);
+            let pair = report.pair();
+            rules::judge_new(&report, lists, moment, pair.map(|pair| register.standing(&pair)), &mut verdict);
+            if let (Ok(pair), true) = (pair, verdict.is_clean()) {
+                if let Err(refusal) = register.set_live(&pair) {
+                    return refusal.into();
+                }
+            }
+        }
+        b"CXL" => {
+            let report = Cancellation::read(&cells, &mut verdict);
+            let pair = report.pair();
+            rules::judge_cancellation(&report, lists, moment, pair.map(|pair| register.standing(&pair)), &mut verdict);
+            if let (Ok(pair), true) = (pair, verdict.is_clean()) {
+                register.set_cancelled(&pair);
+            }
+        }
+        _ => verdict.add(1001),
+    }
+
+    for (entry, code) in findings.iter_mut().zip(verdict.codes()) {
+        *entry = code;
+    }
+    Outcome { answer: 0, count: verdict.count(), words: verdict.words() }
+}
+
+/// The cells of a line, if there are exactly 65.
+fn split(line: &[u8]) -> Option<[&[u8]; CELLS]> {
+    let mut cells = [&line[..0]; CELLS];
+    let mut count = 0;
+    for cell in line.split(|&byte| byte == b'|') {
+        *cells.get_mut(count)? = cell;
+        count += 1;
+    }
+    (count == CELLS).then_some(cells)
+}
+
+#[cfg(test)]
+mod tests;

@@ -1,0 +1,407 @@
+//! Whole calls, by hand: the examples of document 01 and what is easily got wrong.
+
+use super::*;
+
+/// The LEI of document 01's examples.
+const E: &str = "00000000000000000098";
+const F: &str = "00000000000000000195";
+const FILLER: u16 = 0xA5A5;
+
+fn list(mark: &str, rows: &[Vec<u8>]) -> Vec<u8> {
+    [mark.as_bytes(), &1u16.to_le_bytes(), &(rows.len() as u32).to_le_bytes(), &rows.concat()].concat()
+}
+
+fn days(from: u32, to: u32) -> Vec<u8> {
+    [from.to_le_bytes(), to.to_le_bytes()].concat()
+}
+
+/// A row: key, what follows it, two days.
+fn row(key: &str, more: &[u8], from: u32, to: u32) -> Vec<u8> {
+    [key.as_bytes(), more, &days(from, to)].concat()
+}
+
+/// A whole call that can be changed piece by piece.
+#[derive(Clone)]
+struct Sample {
+    cells: Vec<String>,
+    lei: Vec<u8>,
+    cty: Vec<u8>,
+    ccy: Vec<u8>,
+    ven: Vec<u8>,
+    ins: Vec<u8>,
+    register: Vec<u8>,
+    day: u32,
+    micro: u64,
+    findings: Vec<u16>,
+}
+
+/// A share sold on a German exchange, without a finding.
+fn clean() -> Sample {
+    let mut sample = Sample {
+        cells: vec![String::new(); 65],
+        lei: list("LEI", &[row(E, &[1, 1], 20000101, 0), row(F, &[2, 1], 20000101, 0)]),
+        cty: list("CTY", &[row("DE", b"", 19000101, 99991231)]),
+        ccy: list("CCY", &[row("EUR", &[1], 19990101, 99991231), row("DEM", &[2], 19480620, 20020228)]),
+        ven: list("VEN", &[row("XETR", &[1], 20000101, 99991231), row("TGAT", &[2], 20000101, 99991231)]),
+        ins: list("INS", &[row("AA0000000006", b"ESVUFR", 20000101, 99991231)]),
+        register: vec![0; 9 + 4 * 74],
+        day: 20250322,
+        micro: 43_200_000_000,
+        findings: vec![FILLER; 140],
+    };
+    sample.register[..5].copy_from_slice(b"TRN\x01\x00");
+    for (cell, value) in [
+        (1, "NEW"),
+        (2, "R1"),
+        (4, E),
+        (5, "TRUE"),
+        (6, E),
+        (7, "CONCAT:DE19800101JOHN#SMITH"),
+        (11, "1980-01-01"),
+        (16, "MIC:XETR"),
+        (25, "FALSE"),
+        (28, "2025-03-21T09:00:00Z"),
+        (29, "AOTC"),
+        (30, "UNT:5."),
+        (33, "MV:12.5"),
+        (34, "EUR"),
+        (36, "XETR"),
+        (37, "DE"),
+        (41, "AA0000000006"),
+        (59, "NORE"),
+        (65, "FALSE"),
+    ] {
+        sample.set(cell, value);
+    }
+    sample
+}
+
+impl Sample {
+    fn set(&mut self, cell: usize, value: &str) -> &mut Sample {
+        self.cells[cell - 1] = value.to_string();
+        self
+    }
+
+    fn with(&self, cells: &[(usize, &str)]) -> Sample {
+        let mut sample = self.clone();
+        for (cell, value) in cells {
+            sample.set(*cell, value);
+        }
+        sample
+    }
+
+    /// Judges the call as it stands, or with another line; the register and the findings stay changed.
+    fn judge_line(&mut self, line: &[u8]) -> Outcome {
+        judge(Call {
+            line,
+            lei: &self.lei,
+            cty: &self.cty,
+            ccy: &self.ccy,
+            ven: &self.ven,
+            ins: &self.ins,
+            register: &mut self.register,
+            day: self.day,
+            micro: self.micro,
+            findings: &mut self.findings,
+        })
+    }
+
+    fn judge(&mut self) -> Outcome {
+        let line = self.cells.join("|");
+        self.judge_line(line.as_bytes())
+    }
+
+    /// The codes of a call that is not refused; the words, the count and the list have to agree.
+    fn codes(&self) -> Vec<u16> {
+        let mut sample = self.clone();
+        let outcome = sample.judge();
+        assert_eq!(outcome.answer, 0);
+        let codes = sample.findings[..usize::from(outcome.count)].to_vec();
+        let mut words = [0; 3];
+        for code in &codes {
+            let place = crate::codes::CODES.iter().position(|c| c == code).unwrap();
+            words[place / 64] |= 1 << (place % 64);
+        }
+        assert_eq!(outcome.words, words);
+        assert!(sample.findings[codes.len()..].iter().all(|entry| *entry == FILLER));
+        assert!(codes.is_empty() || sample.register == self.register);
+        codes
+    }
+
+    /// A refusal, which changes nothing.
+    fn refused(&self) -> u16 {
+        let mut sample = self.clone();
+        let outcome = sample.judge();
+        assert_ne!(outcome.answer, 0);
+        assert_eq!(outcome, Outcome { answer: outcome.answer, count: 0, words: [0; 3] });
+        assert_eq!((&sample.register, &sample.findings), (&self.register, &self.findings));
+        outcome.answer
+    }
+}
+
+#[test]
+fn a_clean_line_is_entered() {
+    let mut sample = clean();
+    let before = sample.register.clone();
+    assert_eq!(sample.judge(), Outcome::default());
+    assert_eq!(sample.register[5..9], 1u32.to_le_bytes());
+    assert_eq!(sample.register[9..29], *E.as_bytes());
+    assert_eq!(sample.register[29..32], *b"\x02R1");
+    assert!(sample.register[32..82].iter().all(|byte| *byte == 0));
+    assert_eq!(sample.register[82], 1);
+    assert_eq!(sample.register[83..], before[83..]);
+    assert_eq!(sample.findings, [FILLER; 140]);
+}
+
+#[test]
+fn refusals_come_in_order() {
+    let mut sample = clean();
+    sample.register.truncate(9);
+    assert_eq!(sample.refused(), 11);
+    sample.set(65, "FALSE|");
+    assert_eq!(sample.refused(), 10);
+    sample.set(42, &"x".repeat(4097));
+    assert_eq!(sample.refused(), 9);
+    sample.findings.truncate(136);
+    assert_eq!(sample.refused(), 8);
+    sample.micro = 86_400_000_000;
+    assert_eq!(sample.refused(), 7);
+    sample.register[5] = 1;
+    assert_eq!(sample.refused(), 6);
+    sample.ins.push(0);
+    assert_eq!(sample.refused(), 5);
+    sample.ven[3] = 2;
+    assert_eq!(sample.refused(), 4);
+    sample.ccy.truncate(8);
+    assert_eq!(sample.refused(), 3);
+    sample.cty[5] = 2;
+    assert_eq!(sample.refused(), 2);
+    sample.lei[0] = b'l';
+    assert_eq!(sample.refused(), 1);
+}
+
+#[test]
+fn refusals_at_their_edges() {
+    let judged = |change: fn(&mut Sample)| {
+        let mut sample = clean();
+        change(&mut sample);
+        sample.judge().answer
+    };
+    assert_eq!(judged(|sample| sample.findings.truncate(137)), 0);
+    assert_eq!(judged(|sample| sample.findings.truncate(136)), 8);
+    assert_eq!(judged(|sample| sample.micro = 86_399_999_999), 0);
+    for day in [20230229, 18991231, 100000101, 20250332, 0, u32::MAX] {
+        let mut sample = clean();
+        sample.day = day;
+        assert_eq!(sample.refused(), 7);
+    }
+    // A count whose product overflows 32 bits to the right length.
+    assert_eq!(judged(|sample| sample.lei[8] = 0x80), 1);
+    assert_eq!(judged(|sample| sample.register[5] = 4), 11);
+    assert_eq!(judged(|sample| sample.register[5] = 5), 6);
+    assert_eq!(judged(|sample| sample.register.truncate(9 + 73)), 11);
+    let mut sample = clean();
+    let length = sample.cells.join("|").len();
+    sample.set(42, &"x".repeat(4096 - length));
+    assert_eq!(sample.codes(), [1042]);
+    sample.set(42, &"x".repeat(4097 - length));
+    assert_eq!(sample.refused(), 9);
+    assert_eq!(clean().judge_line(b"").answer, 10);
+    assert_eq!(clean().judge_line(&[b'|'; 63]).answer, 10);
+    assert_eq!(clean().judge_line(&[b'|'; 65]).answer, 10);
+    assert_eq!(clean().judge_line(&[b'|'; 64]), Outcome { answer: 0, count: 1, words: [0, 1 << 8, 0] });
+}
+
+#[test]
+fn the_place_of_each_code() {
+    // 023 is the lowest bit of the first word; 1001 is the 73rd code, 1065 the last.
+    let mut sample = clean();
+    sample.judge();
+    assert_eq!(sample.judge().words, [1, 0, 0]);
+    assert_eq!(clean().with(&[(65, "")]).judge().words, [0, 0, 1 << 8]);
+    assert_eq!(clean().with(&[(1, "new")]).codes(), [1001]);
+}
+
+#[test]
+fn a_pair_through_its_life() {
+    let mut sample = clean();
+    let step = |sample: &mut Sample, status: &str| {
+        sample.set(1, status);
+        let outcome = sample.judge();
+        assert_eq!(outcome.answer, 0);
+        let codes = sample.findings[..usize::from(outcome.count)].to_vec();
+        (codes, sample.register[5], sample.register[82])
+    };
+    assert_eq!(step(&mut sample, "CXL"), (vec![24], 0, 0));
+    assert_eq!(step(&mut sample, "NEW"), (vec![], 1, 1));
+    assert_eq!(step(&mut sample, "NEW"), (vec![23], 1, 1));
+    assert_eq!(step(&mut sample, "CXL"), (vec![], 1, 2));
+    assert_eq!(step(&mut sample, "CXL"), (vec![25], 1, 2));
+    // A rejected line does not bring the pair back; a clean one does, in the same row.
+    sample.set(65, "");
+    assert_eq!(step(&mut sample, "NEW"), (vec![1065], 1, 2));
+    sample.set(65, "TRUE");
+    assert_eq!(step(&mut sample, "NEW"), (vec![], 1, 1));
+    // Another reference of the same start is another pair.
+    sample.set(2, "R10");
+    assert_eq!(step(&mut sample, "NEW"), (vec![], 2, 1));
+}
+
+#[test]
+fn the_first_row_of_a_pair_decides() {
+    let mut sample = clean();
+    sample.judge();
+    let row = sample.register[9..83].to_vec();
+    sample.register[83..157].copy_from_slice(&row);
+    sample.register[5] = 2;
+    sample.register[82] = 7;
+    assert!(sample.with(&[(1, "CXL")]).codes() == [25]);
+    sample.judge();
+    assert_eq!((sample.register[5], sample.register[82], sample.register[156]), (2, 1, 1));
+    // Behind the used rows nothing counts.
+    sample.register[5] = 0;
+    assert_eq!(sample.with(&[(1, "CXL")]).codes(), [24]);
+}
+
+#[test]
+fn cancellations_read_four_cells() {
+    let mut sample = clean();
+    sample.judge();
+    let garbage: Vec<(usize, &str)> = (7..=65).map(|cell| (cell, "\u{7f}garbage")).collect();
+    let cancelled = sample.with(&garbage).with(&[(1, "CXL"), (3, "-"), (5, "-")]);
+    assert_eq!(cancelled.codes(), []);
+    assert_eq!(cancelled.with(&[(2, "")]).codes(), [1002]);
+    assert_eq!(cancelled.with(&[(4, "x"), (6, "x")]).codes(), [1004, 1006]);
+    assert_eq!(cancelled.with(&[(6, "00000000000000000097")]).codes(), [60]);
+    assert_eq!(clean().with(&[(1, "CXL"), (6, "00000000000000000097")]).codes(), [24, 60]);
+}
+
+#[test]
+fn needed_cells() {
+    for cell in 2..=65 {
+        let needed = [2, 4, 5, 6, 7, 16, 25, 28, 29, 30, 33, 36, 59, 65].contains(&cell);
+        let codes = clean().with(&[(cell, "")]).codes();
+        match cell {
+            37 => assert_eq!(codes, [370]),
+            _ if needed => assert_eq!(codes, [1000 + cell as u16]),
+            _ => assert_eq!(codes, []),
+        }
+    }
+    let garbage: Vec<(usize, &str)> = (2..=65).map(|cell| (cell, "\u{1}")).collect();
+    assert_eq!(clean().with(&garbage).codes(), (1002..=1065).collect::<Vec<u16>>());
+}
+
+#[test]
+fn five_years_and_the_first_day() {
+    let on = |day: &str| clean().with(&[(28, &format!("{day}T09:00:00Z"))]).codes();
+    assert_eq!(on("2020-03-22"), []);
+    assert_eq!(on("2020-03-21"), [281]);
+    let mut sample = clean();
+    sample.day = 20190101;
+    assert_eq!(sample.with(&[(28, "2018-01-03T00:00:00Z")]).codes(), []);
+    assert_eq!(sample.with(&[(28, "2018-01-02T23:59:59.999999Z")]).codes(), [281]);
+}
+
+#[test]
+fn trading_is_before_submission() {
+    let at = |time: &str| clean().with(&[(28, &format!("2025-03-22T{time}Z"))]).codes();
+    assert_eq!(at("11:59:59.999999"), []);
+    assert_eq!(at("12:00:00"), [280]);
+    assert_eq!(at("12:00:00.000000"), [280]);
+    assert_eq!(at("12:00:00.1"), [280]);
+    assert_eq!(clean().with(&[(28, "2025-03-23T00:00:00Z")]).codes(), [280]);
+}
+
+#[test]
+fn a_malformed_cell_silences_the_rules_that_read_it() {
+    // 072 under XXXX needs no list, and still reads T.
+    assert_eq!(clean().with(&[(16, "MIC:XXXX")]).codes(), [162]);
+    assert_eq!(clean().with(&[(16, "MIC:XXXX"), (28, "x")]).codes(), [1028]);
+    assert_eq!(clean().with(&[(34, "XXX"), (28, "x")]).codes(), [1028]);
+    assert_eq!(clean().with(&[(36, "XXXX"), (41, ""), (28, "x")]).codes(), [1028]);
+    // 073 reads the date cell, 110 the date cell and T, 074 the party alone.
+    assert_eq!(clean().with(&[(11, "1980-01-02")]).codes(), [73]);
+    assert_eq!(clean().with(&[(11, "1980-01-32")]).codes(), [1011]);
+    assert_eq!(clean().with(&[(7, "NIDN:D"), (28, "x"), (11, "x")]).codes(), [74, 1011, 1028]);
+    assert_eq!(clean().with(&[(11, "2025-03-22"), (7, "INTC")]).codes(), [110]);
+    // 290 reads both parties.
+    let deal = clean().with(&[(29, "DEAL"), (57, "ALGO:1")]);
+    assert_eq!(deal.codes(), [290]);
+    assert_eq!(deal.with(&[(7, "?")]).codes(), [1007]);
+    assert_eq!(deal.with(&[(16, &format!("LEI:{E}"))]).codes(), []);
+    assert_eq!(deal.with(&[(57, ""), (16, &format!("LEI:{E}"))]).codes(), [570]);
+    assert_eq!(deal.with(&[(57, ""), (16, &format!("LEI:{E}")), (26, "?")]).codes(), [1026]);
+}
+
+#[test]
+fn leis_good_and_not() {
+    assert_eq!(clean().with(&[(4, F)]).codes(), [40]);
+    assert_eq!(clean().with(&[(4, F), (5, "FALSE")]).codes(), []);
+    assert_eq!(clean().with(&[(6, F)]).codes(), []);
+    assert_eq!(clean().with(&[(26, "00000000000000000A68"), (27, F)]).codes(), [260]);
+    let mut sample = clean();
+    // Inactive since the trading day; the submission day is later.
+    sample.lei = list("LEI", &[row(E, &[1, 2], 20000101, 20250321)]);
+    assert_eq!(sample.codes(), [60]);
+    // Two rows that are good only together.
+    sample.lei = list("LEI", &[row(E, &[1, 2], 20000101, 20250320), row(E, &[1, 1], 20250323, 0)]);
+    assert_eq!(sample.codes(), [40, 60]);
+    sample.lei = list("LEI", &[row(E, &[5, 1], 20000101, 0), row(E, &[1, 3], 20000101, 99991231)]);
+    assert_eq!(sample.codes(), [40, 60]);
+    sample.lei = list("LEI", &[row(E, &[4, 1], 20250321, 0)]);
+    assert_eq!(sample.codes(), []);
+}
+
+#[test]
+fn currencies() {
+    assert_eq!(clean().with(&[(31, "DEM")]).codes(), []);
+    assert_eq!(clean().with(&[(34, "DEM"), (44, "DEM"), (45, "FX:DEM"), (52, "DEM")]).codes(), [340, 440, 451, 520]);
+    let mut sample = clean();
+    sample.ccy =
+        list("CCY", &[row("EUR", &[1], 20250321, 20250321), row("XAU", &[2], 0, 0), row("XXX", &[1], 0, u32::MAX)]);
+    assert_eq!(sample.codes(), []);
+    assert_eq!(sample.with(&[(31, "XAU"), (34, "XXX")]).codes(), [310, 340]);
+    sample.ccy = list("CCY", &[row("EUR", &[3], 19990101, 99991231)]);
+    assert_eq!(sample.codes(), [340]);
+}
+
+#[test]
+fn venues() {
+    assert_eq!(clean().with(&[(36, "TGAT")]).codes(), [372]);
+    assert_eq!(clean().with(&[(36, "TGAT"), (37, ""), (3, "A")]).codes(), [30]);
+    assert_eq!(clean().with(&[(36, "XXXX"), (37, "")]).codes(), [361]);
+    assert_eq!(clean().with(&[(36, "XOFF"), (37, "")]).codes(), []);
+    assert_eq!(clean().with(&[(36, "ABCD"), (37, ""), (3, "A")]).codes(), [360]);
+    assert_eq!(clean().with(&[(25, "TRUE")]).codes(), [362]);
+    assert_eq!(clean().with(&[(25, "TRUE"), (36, "XOFF"), (37, ""), (29, "MTCH")]).codes(), [251]);
+    assert_eq!(clean().with(&[(16, "MIC:TGAT"), (7, "NIDN:FR1")]).codes(), [71, 162]);
+    let mut sample = clean();
+    sample.ven =
+        list("VEN", &[row("XETR", &[1], 0, u32::MAX), row("XOFF", &[1], 0, u32::MAX), row("ABCD", &[4], 0, u32::MAX)]);
+    assert_eq!(sample.with(&[(36, "XOFF")]).codes(), [372]);
+    assert_eq!(sample.with(&[(36, "XOFF"), (37, "")]).codes(), [370]);
+    assert_eq!(sample.with(&[(36, "ABCD")]).codes(), [360]);
+}
+
+#[test]
+fn classifications() {
+    let of = |cfi: &str, more: &[(usize, &str)]| clean().with(&[(43, cfi)]).with(more).codes();
+    assert_eq!(of("DBFTFB", &[]), [350, 540]);
+    assert_eq!(of("DBFTFB", &[(35, "1"), (54, "2025-03-20"), (48, "X"), (33, "PC:1")]), [330, 481, 541]);
+    assert_eq!(of("OCEIXN", &[]), [480, 500, 510, 530, 550]);
+    assert_eq!(of("OCEICN", &[]), [480, 500, 510, 530, 550, 560]);
+    assert_eq!(of("HTAXXP", &[(50, "CALL"), (51, "NOAP"), (53, "EURO")]), [560]);
+    // Not the P of HT..P. of document 000.
+    assert_eq!(of("HTAXPX", &[(50, "CALL"), (51, "NOAP"), (53, "EURO")]), []);
+    assert_eq!(of("SFXXXC", &[(47, "SWAP:")]), []);
+    assert_eq!(of("SFXXXP", &[(47, "OTHR:")]), [473, 560]);
+    assert_eq!(of("SCXXXC", &[(56, "PHYS")]), [380, 473, 560]);
+    assert_eq!(of("RWXXPX", &[(50, "CALL"), (51, "NOAP"), (53, "EURO")]), [502]);
+    assert_eq!(of("JCXXFX", &[(50, "CALL")]), [501, 550]);
+    let mut sample = clean();
+    sample.ins =
+        list("INS", &[row("AA0000000006", b"ESVUFR", 0, 1), row("AA0000000006", b"DBFTFB", 20250321, 20250321)]);
+    assert_eq!(sample.with(&[(33, "PC:1")]).codes(), [331, 351]);
+    sample.ins = list("INS", &[row("AA0000000006", b"DBFTF*", 0, u32::MAX)]);
+    assert_eq!(sample.with(&[(33, "PC:1")]).codes(), []);
+}
