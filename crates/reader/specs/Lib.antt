@@ -1,0 +1,2 @@
+-- Reading the cells of a line one after another.
+pub mod Reading
