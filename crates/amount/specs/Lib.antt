@@ -1,4 +1,4 @@
--- The words of document 01 for amounts: the decimal form, its sign, prices, quantities.
+-- The words of the paper for amounts: the decimal form, its sign, prices, quantities.
 pub mod Decimal
 pub mod Signed
 pub mod Price

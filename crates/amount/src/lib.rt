@@ -1,4 +1,4 @@
-// Amounts: the decimal form D(n, f, m) of document 01, and the prices and quantities that are written with it.
+// Amounts: the decimal form D(n, f, m) of the paper, and the prices and quantities that are written with it.
 //
 // A decimal is read to a whole number and the number of its decimal places: no digit that was written is lost.
 ghost use mathlib.Core.Path.{_≡_};
@@ -181,7 +181,7 @@ pub fn parse_quantity(s: &[u8]) -> Quantity
     Quantity::Malformed
 }
 
-// The kind of a price and of a quantity, numbered from 2 on as document 01 lists them; 0 where it is malformed.
+// The kind of a price and of a quantity, numbered from 2 on as the paper lists them; 0 where it is malformed.
 pub fn price_kind(price: Price) -> u8
     ensures { λ r. ⌜ r ≡ priceKind price ⌝ }
 {

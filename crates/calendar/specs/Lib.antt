@@ -1,4 +1,4 @@
--- Days and moments as document 01 has them.
+-- Days and moments as the paper has them.
 pub mod Day
 pub mod Dates
 pub mod Moments

@@ -47,7 +47,7 @@ pub fn split(line: &[u8]) -> SplitLine
     table
 }
 
-// Cell f of a line, counted from 1 as document 01 does; blank for a number that no cell has. The tables are those of the split line:
+// Cell f of a line, counted from 1 as the paper does; blank for a number that no cell has. The tables are those of the split line:
 // they are lent, since a line is judged with some hundred cell reads.
 pub fn cell<'a, 't>(
     line: &'a [u8],

@@ -1,4 +1,4 @@
--- The rules by CFI of document 01: code, cell, what is wrong with the cell, and for which CFI in cell 43 it is.
+-- The rules by CFI of the paper: code, cell, what is wrong with the cell, and for which CFI in cell 43 it is.
 use Prim.Native.Nat.{ℕ}
 use Prim.Native.String.{String}
 use mathlib.Core.Bool.{Bool, true, false, cond, not, _&&_, _||_}
@@ -9,8 +9,8 @@ use Rattle.text.specs.Ascii.{ascii}
 use Rattle.text.specs.Class.{is}
 use Rattle.text.specs.Shape.{shape}
 
--- What a cell holds is told by a number: 0 where it has a form finding, 1 where it is blank, from 2 on where it is present, its values
--- counted as document 01 lists them (30: UNT NOM MON, 33: PNDG NOAP PC MV YLD BP, 47: SWAP OTHR, 50: PUTO CALL OTHR, 56: PHYS CASH OPTL)
+-- What a cell holds is told by a number: 1 where it is blank, from 2 on where it is present, its values counted as the paper lists them
+-- (30: UNT NOM MON, 33: PNDG NOAP PC MV YLD BP, 47: SWAP OTHR, 50: PUTO CALL OTHR, 56: PHYS CASH OPTL); 0 where it is none of these
 abbrev pub UNT : ℕ
 UNT = 2
 

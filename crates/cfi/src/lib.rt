@@ -1,9 +1,9 @@
 // The rules by CFI: patterns of cell 43 with their codes, cells and required values stand in constant tables, which one
 // matcher walks.
 //
-// What the cells hold comes in as `kinds`, one number for each cell (its index is the cell's number): 0 where the cell has a
-// form finding, 1 where it is blank, from 2 on where it is present, its values counted as document 01 lists them. So a cell
-// with a form finding is never wrong, and what is wrong with a cell is a comparison.
+// What the cells hold comes in as `kinds`, one number for each cell (its index is the cell's number): 1 where it is blank, from
+// 2 on where it is present, its values counted as the paper lists them, so that what is wrong with a cell is a comparison. The
+// number of a cell with a form finding does not matter, since no rule that reads it is given; 0 stands for no value.
 ghost use mathlib.Core.Path.{_≡_};
 ghost use Rattle.cfi.specs.Rules.{cfiFindings};
 ghost use Rattle.cfi.specs.Table.{Spelled, matchesIn, wrongBy, rowBroken, marked};

@@ -15,7 +15,8 @@ use Rattle.text.specs.declared.classes.Class.the-variants.{CapitalDigit}
 use Rattle.text.proofs.Bools.{by-test, and-left, and-right, or-right}
 use Rattle.cells.specs.Cells.{cell}
 use Rattle.forms.specs.Forms.{holds, formOf}
-use Rattle.forms.specs.Findings.{statusOf, found, blank, formFinding, formFindings}
+use Rattle.text.specs.Word.{blank}
+use Rattle.forms.specs.Findings.{statusOf, found, formFinding, formFindings}
 use Rattle.forms.specs.declared.findings.Status.{Status}
 use Rattle.forms.specs.declared.findings.Status.the-variants.{New, Cancellation, Neither}
 use Rattle.forms.specs.declared.tables.Form.{Form}

@@ -3,7 +3,7 @@ use Prim.Native.Nat.{ℕ}
 use mathlib.Core.Bool.{Bool, not, _&&_, _||_}
 use mathlib.Core.List.{List}
 use lib.Dec.{eqb}
-use Rattle.text.specs.Word.{same}
+use Rattle.text.specs.Word.{blank, same}
 use Rattle.cells.specs.Cells.{cell}
 use Rattle.calendar.specs.declared.moments.Moment.{Moment}
 use Rattle.ident.specs.Party.{allowed7, allowed12}
@@ -20,7 +20,7 @@ use Rattle.facts.specs.declared.trades.TradeFacts.{TradeFacts}
 use Rattle.facts.specs.declared.lines.DealFacts.{DealFacts}
 use Rattle.facts.specs.declared.lines.Facts.{Facts}
 use Rattle.facts.specs.Call.{Call}
-use Rattle.facts.specs.Words.{blank, present, says, off, momentOf, isLive, isAbsent, isCancelled, leiGoodUnlapsed, leiGood, leiWrong, countryWrong, kind1, kind2, kind3, partyLeiWrong, partyCountryWrong, partyMicWrong, partyShapeWrong, birthWrong, isLate, isPast, isEntity, currencyWrong, quantityCurrencyWrong, secondCurrency, notBefore, tooOld, heldQuantity, heldPrice}
+use Rattle.facts.specs.Words.{present, says, off, momentOf, isLive, isAbsent, isCancelled, leiGoodUnlapsed, leiGood, leiWrong, countryWrong, kind1, kind2, kind3, partyLeiWrong, partyCountryWrong, partyMicWrong, partyShapeWrong, birthWrong, isLate, isPast, isEntity, currencyWrong, quantityCurrencyWrong, secondCurrency, notBefore, tooOld, heldQuantity, heldPrice}
 use Rattle.facts.specs.Rules.{isNew, isCxl, goodCells, at, T, standingOf, holdings}
 
 unfoldable pub leiFit : List ℕ → List ℕ → ℕ → LeiFit

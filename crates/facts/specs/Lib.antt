@@ -1,4 +1,4 @@
--- The rules of document 01 in its own words, and the facts that the engine works out for them.
+-- The rules of the paper in its own words, and the facts that the engine works out for them.
 pub mod Call
 pub mod Words
 pub mod Rules

@@ -5,7 +5,7 @@ use mathlib.Core.List.{List, [], _∷_, _++_, map}
 use lib.Dec.{eqb}
 use lib.ListN.{getD, set, replicate}
 use Rattle.text.specs.Ascii.{ascii}
-use Rattle.text.specs.Word.{same}
+use Rattle.text.specs.Word.{blank, same}
 use Rattle.cells.specs.Cells.{cell}
 use Rattle.forms.specs.Findings.{formFindings}
 use Rattle.ident.specs.Party.{allowed7, allowed12}
@@ -15,7 +15,7 @@ use Rattle.register.specs.Rows.{standing}
 use Rattle.register.specs.declared.rows.Standing.{Standing}
 use Rattle.cfi.specs.Rules.{violated}
 use Rattle.facts.specs.Call.{Call}
-use Rattle.facts.specs.Words.{blank, present, says, off, momentOf, isLive, isAbsent, isCancelled, leiGoodUnlapsed, leiGood, leiWrong, countryWrong, kind1, kind2, kind3, partyLeiWrong, partyCountryWrong, partyMicWrong, partyShapeWrong, birthWrong, isLate, isPast, isEntity, currencyWrong, quantityCurrencyWrong, secondCurrency, notBefore, tooOld, heldAtAll, heldWord, heldQuantity, heldPrice, heldSwap}
+use Rattle.facts.specs.Words.{present, says, off, momentOf, isLive, isAbsent, isCancelled, leiGoodUnlapsed, leiGood, leiWrong, countryWrong, kind1, kind2, kind3, partyLeiWrong, partyCountryWrong, partyMicWrong, partyShapeWrong, birthWrong, isLate, isPast, isEntity, currencyWrong, quantityCurrencyWrong, secondCurrency, notBefore, tooOld, heldAtAll, heldWord, heldQuantity, heldPrice, heldSwap}
 
 -- for which lines a rule is judged
 pub data When : Type 0 where

@@ -6,7 +6,7 @@ use mathlib.Core.List.{List, [], _∷_}
 use lib.Dec.{eqb, ltb}
 use lib.ListN.{length, drop, set, replicate}
 use Rattle.text.specs.Ascii.{ascii}
-use Rattle.text.specs.Word.{same, startsWith, oneOf}
+use Rattle.text.specs.Word.{blank, same, startsWith, oneOf}
 use Rattle.calendar.specs.Day.{dayNumber}
 use Rattle.calendar.specs.Dates.{dateOf}
 use Rattle.calendar.specs.Moments.{whenOf, isBefore}
@@ -25,9 +25,6 @@ use Rattle.amount.specs.Quantity.{quantityOf, quantityKind}
 use Rattle.lists.specs.Lookups.{leiRows, countryKnown, currencyRows, venueRows, instrumentRows}
 use Rattle.register.specs.declared.rows.Standing.{Standing}
 use Rattle.register.specs.declared.rows.Standing.the-variants.{Absent, Live, Cancelled}
-
-abbrev pub blank : List ℕ → Bool
-blank s = eqb (length s) 0
 
 abbrev pub present : List ℕ → Bool
 present s = not (blank s)
@@ -162,7 +159,7 @@ notBefore moment day micro = not (isBefore moment (record { day = day; micro = m
 unfoldable pub tooOld : ℕ → ℕ → Bool
 tooOld t s = ltb t 20180103 || ltb (dayNumber t + 1826) (dayNumber s)
 
--- What a cell holds, by number, as the CFI rules ask it: 1 blank, from 2 on the values of the cell in document 01's order
+-- What a cell holds, by number, as the CFI rules ask it: 1 blank, from 2 on the values of the cell in the paper's order
 abbrev pub heldAtAll : List ℕ → ℕ
 heldAtAll s = cond (blank s) 1 2
 

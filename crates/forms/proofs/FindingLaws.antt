@@ -8,12 +8,13 @@ use native.Mathlib.Nat.{add-zero, add-suc, suc-add}
 use native.Mathlib.Omega.{arith}
 use lib.Dec.{eqb, eqb·suc-suc}
 use lib.ListN.{length, getD}
+use Rattle.text.specs.Number.{countFrom}
 use Rattle.cells.specs.Cells.{cell}
 use Rattle.forms.specs.declared.tables.Form.{Form}
 use Rattle.forms.specs.declared.tables.Form.the-variants.{ReportStatus}
 use Rattle.forms.specs.declared.findings.Status.{Status}
 use Rattle.forms.specs.Forms.{formsOfCells, formOf}
-use Rattle.forms.specs.Needs.{isOneOf, newNeeds, cxlNeeds, countFrom, marks}
+use Rattle.forms.specs.Needs.{isOneOf, newNeeds, cxlNeeds, marks}
 use Rattle.forms.specs.Findings.{statusOf, found, formFinding, formFindings}
 
 -- what is said of each of n numbers from k on, at its place

@@ -3,23 +3,19 @@ use Prim.Native.Nat.{ℕ, zero, suc}
 use mathlib.Core.Bool.{Bool, true, false, cond, not, _&&_, _||_}
 use mathlib.Core.List.{List, [], _∷_, map}
 use lib.Dec.{eqb}
-use lib.ListN.{length}
 use Rattle.text.specs.Ascii.{ascii}
-use Rattle.text.specs.Word.{same}
+use Rattle.text.specs.Word.{blank, same}
+use Rattle.text.specs.Number.{countFrom}
 use Rattle.cells.specs.Cells.{cell}
 use Rattle.forms.specs.declared.findings.Status.{Status}
 use Rattle.forms.specs.declared.findings.Status.the-variants.{New, Cancellation, Neither}
 use Rattle.forms.specs.declared.tables.Form.{Form}
 use Rattle.forms.specs.Forms.{holds, formOf}
-use Rattle.forms.specs.Needs.{isOneOf, newNeeds, cxlNeeds, countFrom}
+use Rattle.forms.specs.Needs.{isOneOf, newNeeds, cxlNeeds}
 
 -- cell 1: NEW, CXL, or neither
 unfoldable pub statusOf : List ℕ → Status
 statusOf s = cond (same (ascii "NEW") s) New (cond (same (ascii "CXL") s) Cancellation Neither)
-
--- blank is zero bytes
-abbrev pub blank : List ℕ → Bool
-blank s = eqb (length s) 0
 
 -- what is found of a cell of the form, needed or not. Where cell 1 is neither NEW nor CXL the one finding is 1001
 abbrev pub found : Status → Bool → Bool → Bool → Form → List ℕ → Bool

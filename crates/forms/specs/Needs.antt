@@ -1,8 +1,9 @@
 -- What a line needs.
-use Prim.Native.Nat.{ℕ, zero, suc}
+use Prim.Native.Nat.{ℕ}
 use mathlib.Core.Bool.{Bool, false, cond, _||_}
 use mathlib.Core.List.{List, [], _∷_, map}
 use lib.Dec.{eqb}
+use Rattle.text.specs.Number.{countFrom}
 
 -- n is one of the numbers
 abbrev pub isOneOf : List ℕ → ℕ → Bool
@@ -16,11 +17,6 @@ newNeeds = 1 ∷ 2 ∷ 4 ∷ 5 ∷ 6 ∷ 7 ∷ 16 ∷ 25 ∷ 28 ∷ 29 ∷ 30 �
 -- CXL needs, and no other cell of it is read
 abbrev pub cxlNeeds : List ℕ
 cxlNeeds = 1 ∷ 2 ∷ 4 ∷ 6 ∷ []
-
--- n numbers from k on
-abbrev pub countFrom : ℕ → ℕ → List ℕ
-countFrom k zero = []
-countFrom k (suc n) = k ∷ countFrom (suc k) n
 
 -- the 65 cells, a digit each: 1 where the cell is one of the numbers, else 0
 abbrev pub marks : List ℕ → List ℕ

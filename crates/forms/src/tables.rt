@@ -3,7 +3,7 @@ ghost use mathlib.Core.Path.{_≡_};
 ghost use Rattle.forms.specs.Forms.{formsOfCells};
 ghost use Rattle.forms.specs.Needs.{newNeeds, cxlNeeds, marks};
 
-// The forms that document 01 names, each with the cells that have it.
+// The forms that the paper names, each with the cells that have it.
 pub enum Form {
     // 1
     ReportStatus,

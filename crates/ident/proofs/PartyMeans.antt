@@ -12,19 +12,7 @@ use Rattle.text.proofs.Bools.{and-left, and-right, by-test}
 use Rattle.ident.specs.declared.parties.Allowed.{Allowed}
 use Rattle.ident.specs.declared.parties.Identifier.{Identifier}
 use Rattle.ident.specs.declared.parties.Identifier.the-variants.{Intc, Nore, Lei, Ccpt, Concat, Nidn, Mic, Algo, Malformed}
-use Rattle.ident.specs.Party.{named, partOf, wellFormed, identifierOf, isMalformed}
-
--- the paper's word for each kind
-abbrev pub wordOf : Identifier → List ℕ
-wordOf Intc = ascii "INTC"
-wordOf Nore = ascii "NORE"
-wordOf (Lei at) = ascii "LEI:"
-wordOf (Ccpt at) = ascii "CCPT:"
-wordOf (Concat at) = ascii "CONCAT:"
-wordOf (Nidn at) = ascii "NIDN:"
-wordOf (Mic at) = ascii "MIC:"
-wordOf (Algo at) = ascii "ALGO:"
-wordOf Malformed = []
+use Rattle.ident.specs.Party.{named, wordOf, partOf, wellFormed, identifierOf, isMalformed}
 
 begins : (word s : List ℕ) → startsWith word s ≡ true → s ≡ word ++ drop (length word) s
 unfolding startsWith

@@ -1,4 +1,4 @@
--- The words of document 01 for identifiers: LEI, ISIN, MIC, persons, and the party that a cell names.
+-- The words of the paper for identifiers: LEI, ISIN, MIC, persons, and the party that a cell names.
 pub mod Written
 pub mod Codes
 pub mod Person

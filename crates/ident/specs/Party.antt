@@ -43,6 +43,18 @@ named s =
     (cond (startsWith (ascii "ALGO:") s) (Algo 5)
     Malformed)))))))
 
+-- the paper's word for each kind
+abbrev pub wordOf : Identifier → List ℕ
+wordOf Intc = ascii "INTC"
+wordOf Nore = ascii "NORE"
+wordOf (Lei at) = ascii "LEI:"
+wordOf (Ccpt at) = ascii "CCPT:"
+wordOf (Concat at) = ascii "CONCAT:"
+wordOf (Nidn at) = ascii "NIDN:"
+wordOf (Mic at) = ascii "MIC:"
+wordOf (Algo at) = ascii "ALGO:"
+wordOf Malformed = []
+
 -- the cell's kinds have it
 abbrev pub allows : Allowed → Identifier → Bool
 allows a Intc = a .intc

@@ -11,6 +11,7 @@ ghost use Rattle.judge.specs.Refusal.{early};
 ghost use Rattle.judge.specs.Outcome.{pairOf, outcome, Judged};
 use lists::Mark;
 use register::Found;
+use verdict::CODE_COUNT;
 use verdict::Verdict;
 
 // The number of the first test that holds, counted from 1; 0 where none does.
@@ -50,7 +51,7 @@ fn early_refusal(
         !lists::framed(Mark::Ins, ins),
         !register::framed(register),
         !calendar::is_moment(day, micro),
-        room < 137,
+        room < CODE_COUNT,
         4096 < line.len(),
     ])
 }

@@ -1,4 +1,4 @@
--- Document 01's table of the lists: mark, bytes of the key, bytes of the row.
+-- The paper's table of the lists: mark, bytes of the key, bytes of the row.
 use Prim.Native.Nat.{ℕ}
 use mathlib.Core.List.{List}
 use Rattle.text.specs.Ascii.{ascii}

@@ -1,4 +1,4 @@
-// What document 01's table says of each list, and the frame that all five share.
+// What the paper's table says of each list, and the frame that all five share.
 ghost use mathlib.Core.Path.{_≡_};
 ghost use Rattle.lists.specs.Table.{lettersOf, keyWidth, rowWidth};
 ghost use Rattle.lists.specs.Frame.{framed};

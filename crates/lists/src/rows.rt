@@ -1,4 +1,4 @@
-// What one row says, whatever its key: the questions of document 01 for each list, all answered in one reading.
+// What one row says, whatever its key: the questions of the paper for each list, all answered in one reading.
 ghost use mathlib.Core.Path.{_≡_};
 ghost use Prim.Native.Nat.{_≤_};
 ghost use Rattle.lists.specs.Row.{inDays};

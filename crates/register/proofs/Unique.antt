@@ -1,11 +1,5 @@
 -- Each public function's contract determines its answer, and every byte of the register that it leaves.
-use mathlib.Core.Path.{_≡_}
-use mathlib.Core.List.{List}
-use Prim.Native.Nat.{ℕ}
-use contract.Lifetimes.{Lfts}
-use denote.Triple.Clauses.{AtExit}
-use borrow.Fn.Kinds.{PK, RK, Dens, resT, endedOf}
-use Rattle.text.proofs.Determined.{Contract, Determined, same-both}
+use Rattle.text.proofs.Determined.{Determined, Left, same-both}
 use Rattle.register.proofs.frame.used.Kinds as used-kinds
 use Rattle.register.proofs.frame.used.Reads as used-reads
 use Rattle.register.proofs.frame.capacity.Kinds as capacity-kinds
@@ -26,12 +20,6 @@ use Rattle.register.proofs.writes.set_live.Kinds as set-live-kinds
 use Rattle.register.proofs.writes.set_live.Reads as set-live-reads
 use Rattle.register.proofs.writes.set_cancelled.Kinds as set-cancelled-kinds
 use Rattle.register.proofs.writes.set_cancelled.Reads as set-cancelled-reads
-
--- whatever the contract permits for the same arguments leaves the same bytes
-abbrev Left : {n : ℕ} (ps : List (PK n)) (r : RK n) → ((κs : Lfts n) → AtExit (endedOf n ps r) κs → List ℕ) → Contract ps r → Type 0
-Left {n} ps r see Post =
-    (κs : Lfts n) (a : Dens κs ps) (x y : resT r κs .Denot) (s t : AtExit (endedOf n ps r) κs)
-    → Post κs a x s → Post κs a y t → see κs s ≡ see κs t
 
 pub used-determined : Determined used-kinds.ps used-kinds.r used-reads.Post
 used-determined κs a x y s t = same-both

@@ -1,4 +1,4 @@
--- The register of document 01: its head, the bytes of a pair, its rows, and what is written.
+-- The register of the paper: its head, the bytes of a pair, its rows, and what is written.
 pub mod Frame
 pub mod Pair
 pub mod Rows

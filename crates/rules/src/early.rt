@@ -6,9 +6,10 @@ ghost use Rattle.facts.specs.Rules.{given, rules1, rules2, rules3};
 ghost use Rattle.facts.specs.Facts.{factsOf};
 ghost use Rattle.verdict.specs.Findings.{put};
 use facts::Facts;
+use verdict::CODE_COUNT;
 
 // 023 024 025 030 040 041 060 070 071 072 073 074.
-pub fn pair_and_buyer(base: [bool; 137], f: Facts) -> [bool; 137]
+pub fn pair_and_buyer(base: [bool; CODE_COUNT], f: Facts) -> [bool; CODE_COUNT]
     ensures { λ r. ⌜ ((c : Call) → f ≡ factsOf c → r ≡ put base 0 (map (given c) rules1)) ⌝ }
 {
     let ok = f.ok;
@@ -36,7 +37,7 @@ pub fn pair_and_buyer(base: [bool; 137], f: Facts) -> [bool; 137]
 }
 
 // 080 110 120 121 122 123 150 160 161 162 163 164.
-pub fn deciders_and_seller(base: [bool; 137], f: Facts) -> [bool; 137]
+pub fn deciders_and_seller(base: [bool; CODE_COUNT], f: Facts) -> [bool; CODE_COUNT]
     ensures { λ r. ⌜ ((c : Call) → f ≡ factsOf c → r ≡ put base 12 (map (given c) rules2)) ⌝ }
 {
     let ok = f.ok;
@@ -63,7 +64,7 @@ pub fn deciders_and_seller(base: [bool; 137], f: Facts) -> [bool; 137]
 }
 
 // 170 200 210 211 212 213 240 251 260 270 280 281.
-pub fn seller_and_time(base: [bool; 137], f: Facts) -> [bool; 137]
+pub fn seller_and_time(base: [bool; CODE_COUNT], f: Facts) -> [bool; CODE_COUNT]
     ensures { λ r. ⌜ ((c : Call) → f ≡ factsOf c → r ≡ put base 24 (map (given c) rules3)) ⌝ }
 {
     let ok = f.ok;

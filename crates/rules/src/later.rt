@@ -6,9 +6,10 @@ ghost use Rattle.facts.specs.Rules.{given, rules4, rules5, rules6};
 ghost use Rattle.facts.specs.Facts.{factsOf};
 ghost use Rattle.verdict.specs.Findings.{put};
 use facts::Facts;
+use verdict::CODE_COUNT;
 
 // 290 310 330 331 340 350 351 360 361 362 370 371.
-pub fn price_and_venue(base: [bool; 137], f: Facts) -> [bool; 137]
+pub fn price_and_venue(base: [bool; CODE_COUNT], f: Facts) -> [bool; CODE_COUNT]
     ensures { λ r. ⌜ ((c : Call) → f ≡ factsOf c → r ≡ put base 36 (map (given c) rules4)) ⌝ }
 {
     let ok = f.ok;
@@ -35,7 +36,7 @@ pub fn price_and_venue(base: [bool; 137], f: Facts) -> [bool; 137]
 }
 
 // 372 380 440 451 473 480 481 490 500 501 502 510.
-pub fn currencies_and_cfi(base: [bool; 137], f: Facts) -> [bool; 137]
+pub fn currencies_and_cfi(base: [bool; CODE_COUNT], f: Facts) -> [bool; CODE_COUNT]
     ensures { λ r. ⌜ ((c : Call) → f ≡ factsOf c → r ≡ put base 48 (map (given c) rules5)) ⌝ }
 {
     let ok = f.ok;
@@ -61,7 +62,7 @@ pub fn currencies_and_cfi(base: [bool; 137], f: Facts) -> [bool; 137]
 }
 
 // 511 520 530 531 540 541 542 550 551 552 560 570.
-pub fn cfi_and_dates(base: [bool; 137], f: Facts) -> [bool; 137]
+pub fn cfi_and_dates(base: [bool; CODE_COUNT], f: Facts) -> [bool; CODE_COUNT]
     ensures { λ r. ⌜ ((c : Call) → f ≡ factsOf c → r ≡ put base 60 (map (given c) rules6)) ⌝ }
 {
     let ok = f.ok;

@@ -13,6 +13,7 @@ use crate::later::cfi_and_dates;
 use crate::later::currencies_and_cfi;
 use crate::later::price_and_venue;
 use register::Standing;
+use verdict::CODE_COUNT;
 
 // The line's split, the five lists, how its pair stands in the register, and the submission moment.
 pub fn findings_of<'a, 't>(
@@ -27,7 +28,7 @@ pub fn findings_of<'a, 't>(
     standing: Standing,
     day: u32,
     micro: u64,
-) -> [bool; 137]
+) -> [bool; CODE_COUNT]
     requires { ⌜ Tabled (now line) (now starts) (now ends) ⌝ }
     ensures { λ r. ⌜ ((register : List ℕ) → standing ≡ pairStands register (now (line .entry)) → r ≡ flags (call (now (line .entry)) (now (lei .entry)) (now (cty .entry)) (now (ccy .entry)) (now (ven .entry)) (now (ins .entry)) register day micro) ++ formFindings (now (line .entry))) ⌝ }
 {
@@ -46,7 +47,7 @@ pub fn findings_of<'a, 't>(
         day,
         micro,
     );
-    let found = pair_and_buyer([false; 137], f);
+    let found = pair_and_buyer([false; CODE_COUNT], f);
     let found = deciders_and_seller(found, f);
     let found = seller_and_time(found, f);
     let found = price_and_venue(found, f);

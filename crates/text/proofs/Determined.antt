@@ -21,6 +21,12 @@ module _ {n : ℕ} (ps : List (PK n)) (r : RK n) where
   abbrev pub Determined : Contract → Type 0
   Determined Post = Seen (λ κs x. x) Post
 
+  -- whatever the contract permits for the same arguments leaves the same in what was lent
+  abbrev pub Left : {B : Lfts n → Type 0} → ((κs : Lfts n) → AtExit (endedOf n ps r) κs → B κs) → Contract → Type 0
+  Left see Post =
+      (κs : Lfts n) (a : Dens κs ps) (x y : resT r κs .Denot) (s t : AtExit (endedOf n ps r) κs)
+      → Post κs a x s → Post κs a y t → see κs s ≡ see κs t
+
 -- two results of one equation
 pub same-both : {A : Type 0} {x y z : A} → x ≡ z → y ≡ z → x ≡ y
 same-both p q = p ∙ sym q

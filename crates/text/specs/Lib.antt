@@ -1,4 +1,4 @@
--- The words of document 01 for bytes: classes, words, shapes, numbers.
+-- The words of the paper for bytes: classes, words, shapes, numbers.
 pub mod Ascii
 pub mod Class
 pub mod Word

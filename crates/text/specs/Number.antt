@@ -7,6 +7,11 @@ use lib.ListN.{length, getD, drop}
 use Rattle.text.specs.declared.classes.Class.the-variants.{Digit}
 use Rattle.text.specs.Class.{inClass}
 
+-- n numbers that follow one another, the first k
+abbrev pub countFrom : ℕ → ℕ → List ℕ
+countFrom k zero = []
+countFrom k (suc n) = k ∷ countFrom (suc k) n
+
 -- what a byte counts as a digit: 0 where it is none
 unfoldable pub digitOf : ℕ → ℕ
 digitOf b = cond (inClass Digit b) (b - 48) 0

@@ -5,6 +5,10 @@ use mathlib.Core.List.{List, [], _∷_}
 use lib.Dec.{eqb}
 use lib.ListN.{length}
 
+-- blank is zero bytes
+abbrev pub blank : List ℕ → Bool
+blank s = eqb (length s) 0
+
 -- s begins with the word
 unfoldable pub startsWith : List ℕ → List ℕ → Bool
 startsWith [] s = true

@@ -2,7 +2,7 @@
 ghost use mathlib.Core.Path.{_≡_};
 ghost use Rattle.text.specs.Class.{inClass, allOf, runOf};
 
-// The classes that document 01 names for the bytes of a cell.
+// The classes that the paper names for the bytes of a cell.
 pub enum Class {
     // 0-9
     Digit,

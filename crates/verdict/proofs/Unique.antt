@@ -1,5 +1,5 @@
 -- Each public function's contract determines its answer.
-use Rattle.text.proofs.Determined.{Determined, same-both}
+use Rattle.text.proofs.Determined.{Determined, Left, same-both}
 use Rattle.verdict.proofs.judged.Kinds as judged-kinds
 use Rattle.verdict.proofs.judged.Reads as judged-reads
 use Rattle.verdict.proofs.refused.Kinds as refused-kinds
@@ -8,10 +8,6 @@ use Rattle.verdict.proofs.place.Kinds as place-kinds
 use Rattle.verdict.proofs.place.Reads as place-reads
 use Rattle.verdict.proofs.list.Kinds as list-kinds
 use Rattle.verdict.proofs.list.Reads as list-reads
-use mathlib.Core.Path.{_≡_}
-use contract.Lifetimes.{Lfts}
-use denote.Triple.Clauses.{AtExit}
-use borrow.Fn.Kinds.{Dens, resT, endedOf}
 
 pub judged-determined : Determined judged-kinds.ps judged-kinds.r judged-reads.Post
 judged-determined κs a x y s t = same-both
@@ -23,6 +19,5 @@ pub place-determined : Determined place-kinds.ps place-kinds.r place-reads.Post
 place-determined κs a x y s t = same-both
 
 -- of `list`: every entry of the findings lent
-pub list-determined : (κs : Lfts 2) (a : Dens κs list-kinds.ps) (x y : resT list-kinds.r κs .Denot) (s t : AtExit (endedOf 2 list-kinds.ps list-kinds.r) κs)
-    → list-reads.Post κs a x s → list-reads.Post κs a y t → s .1 .0 .now ≡ t .1 .0 .now
+pub list-determined : Left list-kinds.ps list-kinds.r (λ κs s. s .1 .0 .now) list-reads.Post
 list-determined κs a x y s t = same-both

@@ -1,6 +1,7 @@
 -- The codes of findings, in rising order: which code each flag stands for.
-use Prim.Native.Nat.{ℕ, zero, suc}
+use Prim.Native.Nat.{ℕ}
 use mathlib.Core.List.{List, [], _∷_, _++_}
+use Rattle.text.specs.Number.{countFrom}
 
 -- the codes of the rules
 unfoldable pub ruleCodes : List ℕ
@@ -12,14 +13,9 @@ ruleCodes =
     372 ∷ 380 ∷ 440 ∷ 451 ∷ 473 ∷ 480 ∷ 481 ∷ 490 ∷ 500 ∷ 501 ∷ 502 ∷ 510 ∷
     511 ∷ 520 ∷ 530 ∷ 531 ∷ 540 ∷ 541 ∷ 542 ∷ 550 ∷ 551 ∷ 552 ∷ 560 ∷ 570 ∷ []
 
--- n numbers that follow one another, the first k
-abbrev pub numbersFrom : ℕ → ℕ → List ℕ
-numbersFrom zero k = []
-numbersFrom (suc n) k = k ∷ numbersFrom n (suc k)
-
 -- 1000 + f for each cell f from 1 to 65
 unfoldable pub formCodes : List ℕ
-formCodes = numbersFrom 65 1001
+formCodes = countFrom 1001 65
 
 unfoldable pub codes : List ℕ
 codes = ruleCodes ++ formCodes

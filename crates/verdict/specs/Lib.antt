@@ -1,4 +1,4 @@
--- Document 01's words for a verdict: the codes, the three words, the count, the findings listed.
+-- The paper's words for a verdict: the codes, the three words, the count, the findings listed.
 pub mod Codes
 pub mod Verdict
 pub mod Findings

@@ -1,4 +1,4 @@
-// The codes of document 01.
+// The codes of the paper.
 
 // 72 codes and 65 forms.
 pub const CODE_COUNT: usize = 137;
