@@ -2,4 +2,5 @@
 pub mod Findings
 mod WalkLaws
 mod Spelling
+mod NoCfi
 mod Unique

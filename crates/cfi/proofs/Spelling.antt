@@ -15,15 +15,15 @@ use Rattle.cfi.specs.Table.{spaced, textOf, faultNumber, faultValue, row
 use Rattle.cfi.proofs.WalkLaws.{in-skip, map-ext, foundIn}
 
 -- each pattern is of six bytes
-six : List (List ℕ) → Bool
+unfoldable pub six : List (List ℕ) → Bool
 six [] = true
 six (pattern ∷ patterns) = eqb (length pattern) 6 && six patterns
 
-allSix : List Rule → Bool
+unfoldable pub allSix : List Rule → Bool
 allSix [] = true
 allSix (r ∷ rs) = six (r .patterns) && allSix rs
 
-rules-six : allSix rules ≡ true
+pub rules-six : allSix rules ≡ true
 unfolding allSix six rules words
 rules-six = refl
 

@@ -208,9 +208,13 @@ fn found_in(
     found
 }
 
-// Of each of the 19 codes by CFI, in rising order, whether it is violated.
+// Of each of the 19 codes by CFI, in rising order, whether it is violated. Every pattern has six letters, and most lines have
+// no CFI: then nothing is walked.
 pub fn cfi_findings(kinds: &[u8; 66], cfi: &[u8]) -> [bool; 19]
     ensures { λ r. ⌜ r ≡ cfiFindings (now (kinds .entry)) (now (cfi .entry)) ⌝ }
 {
+    if cfi.len() != 6 {
+        return [false; 19];
+    }
     found_in(&ROWS, &PATTERNS, &CODES, kinds, cfi)
 }

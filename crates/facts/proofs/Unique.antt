@@ -1,6 +1,12 @@
 -- Each public function's contract determines its answer.
 use Rattle.text.proofs.Determined.{Determined, same-both}
 use Rattle.facts.proofs.Registers.{stands-there}
+use Rattle.facts.proofs.entities.lei_fit.Kinds as lei-fit-kinds
+use Rattle.facts.proofs.entities.lei_fit.Reads as lei-fit-reads
+use Rattle.facts.proofs.lines.good_cells.Kinds as good-cells-kinds
+use Rattle.facts.proofs.lines.good_cells.Reads as good-cells-reads
+use Rattle.facts.proofs.lines.is_cancelled.Kinds as is-cancelled-kinds
+use Rattle.facts.proofs.lines.is_cancelled.Reads as is-cancelled-reads
 use Rattle.facts.proofs.lines.is_absent.Kinds as is-absent-kinds
 use Rattle.facts.proofs.lines.is_absent.Reads as is-absent-reads
 use Rattle.facts.proofs.lines.line_facts.Kinds as line-facts-kinds
@@ -14,3 +20,12 @@ line-facts-determined κs a x y s t one other =
 
 pub is-absent-determined : Determined is-absent-kinds.ps is-absent-kinds.r is-absent-reads.Post
 is-absent-determined κs a x y s t = same-both
+
+pub is-cancelled-determined : Determined is-cancelled-kinds.ps is-cancelled-kinds.r is-cancelled-reads.Post
+is-cancelled-determined κs a x y s t = same-both
+
+pub good-cells-determined : Determined good-cells-kinds.ps good-cells-kinds.r good-cells-reads.Post
+good-cells-determined κs a x y s t = same-both
+
+pub lei-fit-determined : Determined lei-fit-kinds.ps lei-fit-kinds.r lei-fit-reads.Post
+lei-fit-determined κs a x y s t = same-both

@@ -10,9 +10,13 @@ mod times;
 mod trades;
 
 pub use entities::EntityFacts;
+pub use entities::LeiFit;
+pub use entities::lei_fit;
 pub use lines::DealFacts;
 pub use lines::Facts;
+pub use lines::good_cells;
 pub use lines::is_absent;
+pub use lines::is_cancelled;
 pub use lines::line_facts;
 pub use money::MoneyFacts;
 pub use parties::PartiesFacts;

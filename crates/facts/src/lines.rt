@@ -74,7 +74,7 @@ pub fn is_absent(standing: Standing) -> bool
     }
 }
 
-fn is_cancelled(standing: Standing) -> bool
+pub fn is_cancelled(standing: Standing) -> bool
     ensures { λ r. ⌜ r ≡ isCancelled standing ⌝ }
 {
     match standing {
@@ -85,7 +85,7 @@ fn is_cancelled(standing: Standing) -> bool
 }
 
 // From the form findings of the 65 cells to what is good, by cell number.
-fn good_cells(found: &[bool; 65]) -> [bool; 66]
+pub fn good_cells(found: &[bool; 65]) -> [bool; 66]
     ensures { λ r. ⌜ r ≡ false ∷ map not (now (found .entry)) ⌝ }
 {
     let all = &found[..];

@@ -1,5 +1,7 @@
 // Where a pair stands in a register, and how.
 ghost use mathlib.Core.Path.{_≡_};
+ghost use Prim.Native.Nat.{_+_, min};
+ghost use lib.ListN.{getD};
 ghost use Rattle.register.specs.Rows.{firstRow, standing, standingAt};
 use crate::frame::framed;
 use crate::frame::is_used;
@@ -20,7 +22,19 @@ pub enum Standing {
     Cancelled,
 }
 
-// The first used row whose first 73 bytes are the pair's.
+// The place of the reference's last byte, or of its length where it has none: there pairs differ most often.
+fn telling_place(pair: &[u8; 73]) -> usize
+    ensures { λ r. ⌜ r ≡ min (20 + getD (now (pair .entry)) 20 0) 72 ⌝ }
+{
+    let place = 20 + byte_at(pair, 20) as usize;
+    if place < 72 {
+        return place;
+    }
+    72
+}
+
+// The first used row whose first 73 bytes are the pair's. They are compared only in rows that have the pair's byte at the
+// telling place, which few others have.
 pub fn find(register: &[u8], pair: &[u8; 73]) -> Found
     ensures { λ r. ⌜ r ≡ firstRow 1 0 (now (register .entry)) (now (pair .entry)) ⌝ }
 {
@@ -28,11 +42,15 @@ pub fn find(register: &[u8], pair: &[u8; 73]) -> Found
         return Found::Nowhere;
     }
     let count = used(register) as usize;
+    let place = telling_place(pair);
+    let byte = byte_at(pair, place);
     let mut i = 0;
     let mut at = 9;
     while i < count {
-        if starts_with(rest(register, at), pair) {
-            return Found::At(i);
+        if byte_at(register, at + place) == byte {
+            if starts_with(rest(register, at), pair) {
+                return Found::At(i);
+            }
         }
         i += 1;
         at += 74;

@@ -1,14 +1,14 @@
 -- Words and shapes, from a place on.
 use mathlib.Core.Path.{_≡_, _∙_, sym, refl, ap}
-use mathlib.Core.Bool.{Bool, true, false, _&&_, _||_, and-false, true≢false}
+use mathlib.Core.Bool.{Bool, true, false, _&&_, _||_, and-true, and-false, and-assoc, true≢false}
 use mathlib.Core.List.{List, [], _∷_}
 use Prim.Native.Nat.{ℕ, zero, suc, _+_, _-_, _≤_, _<_}
 use native.Mathlib.Numerals.{add-one}
 use native.Mathlib.Omega.{arith}
 use borrow.Author.Tests.{eq-eqb, ne-eqb}
 use lib.Dec.{eqb, eqb·suc-zero, eqb·suc-suc}
-use lib.ListN.{length, getD, drop, drop-of-length-le, length-drop}
-use lib.Seq.{drop-drop}
+use lib.ListN.{length, getD, take, drop, drop-of-length-le, length-drop}
+use lib.Seq.{drop-drop, take-all}
 use Rattle.text.specs.Word.{startsWith, same, among, oneOf}
 use Rattle.text.specs.Shape.{suits, shape}
 use Rattle.text.proofs.Lists.{rest-at}
@@ -24,31 +24,50 @@ too-short (y ∷ word) (x ∷ s) h = go (eqb x y) (too-short word s (omega arith
     go true e = e
     go false e = refl
 
--- the bytes before place i are the word's
-pub record BegunSoFar (word s : List ℕ) (i : ℕ) : Type 0 where
+-- the last byte of a word's beginning, and what is before it
+begins-by : (word s : List ℕ) (i : ℕ) → i < length word → length word ≤ length s
+    → startsWith (take (suc i) word) s ≡ (startsWith (take i word) s && eqb (getD s i 0) (getD word i 0))
+unfolding startsWith
+begins-by [] s i h room = absurd (omega arith)
+begins-by (y ∷ word) [] i h room = absurd (omega arith)
+begins-by (y ∷ word) (x ∷ s) zero h room = and-true (eqb x y)
+begins-by (y ∷ word) (x ∷ s) (suc i) h room =
+    ap (λ (t : Bool). eqb x y && t) (begins-by word s i (omega arith) (omega arith)) ∙ sym (and-assoc (eqb x y) (startsWith (take i word) s) (eqb (getD s i 0) (getD word i 0)))
+
+-- the bytes from place i on are the word's
+pub record EndedSoFar (word s : List ℕ) (i : ℕ) : Type 0 where
   pub within : i ≤ length word
   pub room : length word ≤ length s
-  pub left : startsWith word s ≡ startsWith (drop i word) (drop i s)
+  pub left : startsWith word s ≡ startsWith (take i word) s
 
-pub begun-start : {word s : List ℕ} → length word ≤ length s → BegunSoFar word s 0
-begun-start h = record { within = omega arith; room = h; left = refl }
+pub ended-start : {word s : List ℕ} → length word ≤ length s → EndedSoFar word s (length word)
+ended-start {word} {s} h = record { within = omega arith; room = h; left = rw (take-all (length word) word (omega arith)) }
 
-module _ {word s : List ℕ} {i : ℕ} (so-far : BegunSoFar word s i) where
-  pub begun-on : i < length word → getD s i 0 ≡ getD word i 0 → BegunSoFar word s (i + 1)
+module _ {word s : List ℕ} {n : ℕ} (so-far : EndedSoFar word s n) where
+  left-by : 0 < n → startsWith word s ≡ (startsWith (take (n - 1) word) s && eqb (getD s (n - 1) 0) (getD word (n - 1) 0))
+  left-by h =
+      let e : n ≡ suc (n - 1) = omega arith in
+      so-far .left ∙ ap (λ (k : ℕ). startsWith (take k word) s) e ∙ begins-by word s (n - 1) (omega (arith, so-far .within)) (so-far .room)
+
+  pub ended-on : 0 < n → getD s (n - 1) 0 ≡ getD word (n - 1) 0 → EndedSoFar word s (n - 1)
+  ended-on h e = record { within = omega (arith, so-far .within); room = so-far .room; left = left-by h ∙ rw (eq-eqb _ _ e, and-true) }
+
+  pub ended-off : 0 < n → (getD s (n - 1) 0 ≡ getD word (n - 1) 0 → ⊥) → false ≡ startsWith word s
+  ended-off h e = sym (left-by h ∙ rw (ne-eqb _ _ e, and-false))
+
+  pub ended-all : n ≤ 0 → true ≡ startsWith word s
   unfolding startsWith
-  begun-on h e =
-      let k : i < length s = omega arith in
-      record { within = omega arith; room = so-far .room; left = so-far .left ∙ rw (rest-at 0 word i h, rest-at 0 s i k, eq-eqb _ _ e) }
+  ended-all h =
+      let z : n ≡ 0 = omega arith in
+      sym (so-far .left ∙ rw z)
 
-  pub begun-off : i < length word → (getD s i 0 ≡ getD word i 0 → ⊥) → false ≡ startsWith word s
-  unfolding startsWith
-  begun-off h e =
-      let k : i < length s = omega arith in
-      sym (so-far .left ∙ rw (rest-at 0 word i h, rest-at 0 s i k, ne-eqb _ _ e))
-
-  pub begun-end : length word ≤ i → true ≡ startsWith word s
-  unfolding startsWith
-  begun-end h = sym (so-far .left ∙ rw (drop-of-length-le word h))
+-- a text that differs from the word at a place does not begin with it
+pub differs-at : (word s : List ℕ) (i : ℕ) → i < length word → (getD s i 0 ≡ getD word i 0 → ⊥) → startsWith word s ≡ false
+unfolding startsWith
+differs-at [] s i h e = absurd (omega arith)
+differs-at (y ∷ word) [] i h e = refl
+differs-at (y ∷ word) (x ∷ s) zero h e = rw (ne-eqb x y e)
+differs-at (y ∷ word) (x ∷ s) (suc i) h e = rw (differs-at word s i (omega arith) e) (and-false (eqb x y))
 
 -- a text is the word if it begins with it and is as long
 pub same-is : (word s : List ℕ) → (eqb (length s) (length word) && startsWith word s) ≡ same word s

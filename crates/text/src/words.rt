@@ -6,18 +6,19 @@ use crate::classes::Class;
 use crate::classes::is_in;
 use crate::parts::rest;
 
+// Compared from the word's end: keys and identifiers that differ mostly begin alike.
 pub fn starts_with(s: &[u8], word: &[u8]) -> bool
     ensures { λ r. ⌜ r ≡ startsWith (now (word .entry)) (now (s .entry)) ⌝ }
 {
     if s.len() < word.len() {
         return false;
     }
-    let mut i = 0;
-    while i < word.len() {
-        if s[i] != word[i] {
+    let mut left = word.len();
+    while left > 0 {
+        left -= 1;
+        if s[left] != word[left] {
             return false;
         }
-        i += 1;
     }
     true
 }

@@ -1,34 +1,18 @@
 use Rattle.rules.proofs.lines.findings_of.Statement.{statement}
 use Rattle.rules.proofs.lines.findings_of.Tie as tie
-use mathlib.Core.Path.{_≡_, _∙_, refl, ap}
-use mathlib.Core.Bool.{false}
-use mathlib.Core.List.{[], map}
-use lib.ListN.{replicate}
-use Rattle.forms.specs.Findings.{formFindings}
-use Rattle.forms.proofs.FindingLaws.{findings-count}
-use Rattle.facts.specs.Call.{call}
-use Rattle.facts.specs.Rules.{given, rules1, rules2, rules3, rules4, rules5, rules6, flags}
-use Rattle.verdict.specs.Findings.{put}
-use Rattle.verdict.proofs.PlaceLaws.{Filled, filled-none, filled-more, filled-all}
+use mathlib.Core.Path.{_≡_, _∙_, sym, ap}
+use Rattle.text.specs.Ascii.{ascii}
+use Rattle.text.specs.Word.{same}
 use borrow.Author.Needs.{needs}
-use native.Mathlib.Omega.{arith}
 
 returns : tie.Need-returns
-unfolding flags
-returns c =
+returns c = (c .when-new) .ensures
+
+returns-2 : tie.Need-returns-2
+returns-2 c =
     λ register stands.
-    let a = (c .before .before .before .before .before .before .before .before .before .before .before .before .before .before .before .before .before .args) in
-    let l = a .line .now in
-    let k = call l (a .lei .now) (a .cty .now) (a .ccy .now) (a .ven .now) (a .ins .now) register (a .day) (a .micro) in
-    let e = c .before .before .before .before .before .before .before .before .line-facts .ensures register stands in
-    let s0 : Filled 0 [] (replicate 137 false) = filled-none refl in
-    let s1 = filled-more s0 (map (given k) rules1) 12 refl (omega arith) ((c .before .before .before .before .before .before .before .pair-and-buyer) .ensures k e) in
-    let s2 = filled-more s1 (map (given k) rules2) 12 refl (omega arith) ((c .before .before .before .before .before .before .deciders-and-seller) .ensures k e) in
-    let s3 = filled-more s2 (map (given k) rules3) 12 refl (omega arith) ((c .before .before .before .before .before .seller-and-time) .ensures k e) in
-    let s4 = filled-more s3 (map (given k) rules4) 12 refl (omega arith) ((c .before .before .before .before .price-and-venue) .ensures k e) in
-    let s5 = filled-more s4 (map (given k) rules5) 12 refl (omega arith) ((c .before .before .before .currencies-and-cfi) .ensures k e) in
-    let s6 = filled-more s5 (map (given k) rules6) 12 refl (omega arith) ((c .before .before .cfi-and-dates) .ensures k e) in
-    filled-all (filled-more s6 (formFindings l) 65 (findings-count l) (omega arith) (c .place .ensures ∙ ap (put (c .before .before .cfi-and-dates .result) 72) (c .before .before .before .before .before .before .before .before .before .before .form-findings .ensures)))
+    (c .unless-new) .ensures ((c .before .before .before .before .before .before .before .before .before .before .before .before .before .args) .cty .now) ((c .before .before .before .before .before .before .before .before .before .before .before .before .before .args) .ccy .now) ((c .before .before .before .before .before .before .before .before .before .before .before .before .before .args) .ven .now) ((c .before .before .before .before .before .before .before .before .before .before .before .before .before .args) .ins .now) register ((c .before .before .before .before .before .before .before .before .before .before .before .before .before .args) .micro) stands
+    (ap (same (ascii "NEW")) (sym ((c .before .before .before .before .before .cell) .ensures)) ∙ sym ((c .before .before .before .same) .ensures) ∙ (c .before .before .if1) .left)
 
 pub findings-of-spec : {M : Type 1} → statement M
 findings-of-spec =
@@ -36,12 +20,9 @@ findings-of-spec =
     (tie.spec
     (λ c κs. search needs)
     (λ c κs. search needs)
-    (λ c κs. search needs)
-    (λ c κs. search needs)
-    (λ c κs. search needs)
-    (λ c κs. search needs)
-    (λ c κs. search needs)
-    (λ c κs. search needs)
     (λ c. search needs)
     (λ c κs. search needs)
-    returns)
+    (λ c κs. search needs)
+    returns
+    (λ c κs. search needs)
+    returns-2)
