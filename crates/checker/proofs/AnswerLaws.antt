@@ -14,9 +14,9 @@ use Rattle.verdict.specs.Codes.{codes}
 use Rattle.verdict.proofs.Promises.{code-count}
 use Rattle.judge.specs.Refusal.{allFlags, refusal}
 use Rattle.judge.specs.Outcome.{Outcome, outcome, Judged, judgedOutcome, refusedOutcome}
-use Rattle.checker.specs.Kept.{Kept}
+use Rattle.buffer.specs.Kept.{Kept}
+use Rattle.buffer.proofs.KeptLaws.{keep-front, keep-then}
 use Rattle.checker.specs.Printed.{decimal, spaced, printed, Answered}
-use Rattle.checker.proofs.KeptLaws.{keep-then}
 use Rattle.checker.proofs.DecimalLaws.{spaced-join, printed-short}
 
 pick-short : (table : List ℕ) (flags : List Bool) → length (pick table flags) ≤ length table
@@ -51,7 +51,7 @@ answered {number} {n} {o} {before} {findings} {register} {codes} {out} {out'} {v
     λ i. printed number ((e .says) i .answer) ((e .says) i .count) (same i) in
     record {
       prints = λ room.
-          p .holds ∙ ap (take (length out)) line
+          keep-front p ∙ ap (take (length out)) line
           ∙ take-all (length out) (printed number (o .verdict .answer) (o .verdict .count) (o .listed))
           (omega (arith, printed-short number (o .verdict .answer) (o .verdict .count) (o .listed) (counted .few)));
       keeps = e .keeps;

@@ -10,8 +10,8 @@ use lib.ListN.{length, length-append}
 use borrow.Author.Tests.{lt-ltb, le-ltb, leb-true, leb-false}
 use Rattle.text.proofs.Bools.{by-test}
 use Rattle.io.specs.Digits.{digits, Fewest, glyph}
-use Rattle.checker.proofs.KeptLaws.{Joins, keep-then}
-use Rattle.checker.specs.Kept.{Kept}
+use Rattle.buffer.specs.Kept.{Kept}
+use Rattle.buffer.proofs.KeptLaws.{Joins, keep-then}
 use Rattle.checker.specs.Printed.{digitsOf, decimal, spaced, printed, longest}
 
 glyph-digit : (n : ℕ) → glyph (n % 10) ≡ 48 + n % 10

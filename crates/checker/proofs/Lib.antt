@@ -1,5 +1,4 @@
 -- The laws behind the program's proofs.
-mod KeptLaws
 mod BareLaws
 mod DecimalLaws
 mod AnswerLaws

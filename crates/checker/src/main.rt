@@ -7,7 +7,6 @@ ghost use Rattle.judge.specs.Outcome.{outcome};
 ghost use Rattle.checker.specs.Setting.{emptyRegister, called};
 ghost use Rattle.checker.specs.Printed.{Answered};
 
-mod buffer;
 mod lines;
 mod print;
 

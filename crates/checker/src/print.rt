@@ -2,10 +2,10 @@
 ghost use mathlib.Core.Path.{_≡_};
 ghost use mathlib.Core.List.{[], _∷_};
 ghost use lib.ListN.{take};
-ghost use Rattle.checker.specs.Kept.{Kept};
+ghost use Rattle.buffer.specs.Kept.{Kept};
 ghost use Rattle.checker.specs.Printed.{decimal, spaced, printed};
-use crate::buffer::keep;
-use crate::buffer::keep_all;
+use buffer::keep;
+use buffer::keep_all;
 
 fn wide(x: u16) -> u64
     ensures { λ r. ⌜ r ≡ x ⌝ }

@@ -1,6 +1,6 @@
 use Rattle.checker.proofs.print.keep_codes.Statement.{statement}
 use Rattle.checker.proofs.print.keep_codes.Tie as tie
-use Rattle.checker.proofs.KeptLaws.{KeptSoFar, so-far-start, so-far-on, so-far-end}
+use Rattle.buffer.proofs.KeptLaws.{KeptSoFar, keep-room, so-far-start, so-far-on, so-far-end}
 use Rattle.checker.proofs.DecimalLaws.{spaced-join}
 use Rattle.checker.specs.Printed.{spaced}
 use lib.ListN.{length}
@@ -21,7 +21,7 @@ loop-again : tie.Need-loop-again Inv-loop μ-loop
 loop-again c = so-far-on spaced-join (c .before .before .before .before .before .before .loop .inv) (omega arith) (c .before .before .keep-spaced .ensures)
 
 same-length : tie.Need-same-length Inv-loop μ-loop
-same-length c = c .before .loop .inv .so-far .room
+same-length c = keep-room (c .before .loop .inv .so-far)
 
 returns : tie.Need-returns Inv-loop μ-loop
 returns c = so-far-end spaced-join (c .before .loop .inv) (omega arith)

@@ -1,6 +1,6 @@
-use Rattle.checker.proofs.buffer.keep.Statement.{statement}
-use Rattle.checker.proofs.buffer.keep.Tie as tie
-use Rattle.checker.proofs.KeptLaws.{keep-in, keep-out}
+use Rattle.buffer.proofs.keep.Statement.{statement}
+use Rattle.buffer.proofs.keep.Tie as tie
+use Rattle.buffer.proofs.KeptLaws.{keep-in, keep-out}
 use borrow.Author.Needs.{needs}
 
 returns : tie.Need-returns

@@ -1,6 +1,6 @@
 // A buffer that is filled from its start: what has no room is dropped.
-ghost use Rattle.checker.specs.Kept.{Kept};
 ghost use mathlib.Core.List.{[], _∷_};
+ghost use Rattle.buffer.specs.Kept.{Kept};
 
 // Adds a byte to the first `kept`, and answers how many there are now.
 pub fn keep(buffer: &mut [u8], kept: usize, b: u8) -> usize

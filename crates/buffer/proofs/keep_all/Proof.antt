@@ -1,6 +1,6 @@
-use Rattle.checker.proofs.buffer.keep_all.Statement.{statement}
-use Rattle.checker.proofs.buffer.keep_all.Tie as tie
-use Rattle.checker.proofs.KeptLaws.{KeptSoFar, bytes-join, so-far-start, so-far-on, so-far-end}
+use Rattle.buffer.proofs.keep_all.Statement.{statement}
+use Rattle.buffer.proofs.keep_all.Tie as tie
+use Rattle.buffer.proofs.KeptLaws.{KeptSoFar, keep-room, bytes-join, so-far-start, so-far-on, so-far-end}
 use lib.ListN.{length}
 use Prim.Native.Nat.{_-_}
 use borrow.Author.Needs.{needs}
@@ -19,7 +19,7 @@ loop-again : tie.Need-loop-again Inv-loop μ-loop
 loop-again c = so-far-on bytes-join (c .before .before .before .before .before .before .loop .inv) (omega arith) (c .before .before .keep .ensures)
 
 same-length : tie.Need-same-length Inv-loop μ-loop
-same-length c = c .before .loop .inv .so-far .room
+same-length c = keep-room (c .before .loop .inv .so-far)
 
 returns : tie.Need-returns Inv-loop μ-loop
 returns c = so-far-end bytes-join (c .before .loop .inv) (omega arith)

@@ -1,0 +1,2 @@
+-- A buffer that is filled from its start.
+pub mod Kept

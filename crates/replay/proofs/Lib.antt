@@ -1,0 +1,3 @@
+-- The laws behind the program's proofs.
+mod NumberLaws
+mod ResultLaws
