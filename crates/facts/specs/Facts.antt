@@ -26,14 +26,14 @@ use Rattle.facts.specs.Rules.{isNew, isCxl, goodCells, at, T, standingOf
 unfoldable pub leiFit : List ℕ → List ℕ → ℕ → LeiFit
 leiFit lei s day = record { unlapsed = leiGoodUnlapsed lei s day; any = leiGood lei s day }
 
-unfoldable pub entityOf : List ℕ → List ℕ → List ℕ → List ℕ → List ℕ → List ℕ → ℕ → ℕ → EntityFacts
-entityOf lei c4 c5 c6 c26 c27 t day =
+unfoldable pub entityOf : List ℕ → List ℕ → ℕ → ℕ → EntityFacts
+entityOf line lei t day =
     record {
-      member = says "TRUE" c5 && not (leiGoodUnlapsed lei c4 t);
-      other = says "FALSE" c5 && not (leiGood lei c4 t);
-      submitter = not (leiGood lei c6 day);
-      «buyers_firm» = leiWrong lei c26 t;
-      «sellers_firm» = leiWrong lei c27 t;
+      member = says "TRUE" (cell line 5) && not (leiGoodUnlapsed lei (cell line 4) t);
+      other = says "FALSE" (cell line 5) && not (leiGood lei (cell line 4) t);
+      submitter = not (leiGood lei (cell line 6) day);
+      «buyers_firm» = leiWrong lei (cell line 26) t;
+      «sellers_firm» = leiWrong lei (cell line 27) t;
     }
 
 unfoldable pub partyFactsOf : Allowed → List ℕ → List ℕ → List ℕ → List ℕ → List ℕ → List ℕ → ℕ → PartyFacts
@@ -57,45 +57,46 @@ partiesOf line lei cty ven t =
       «seller_for» = partyFactsOf allowed12 lei cty ven (cell line 21) (cell line 24) (cell line 4) t;
     }
 
-unfoldable pub timeOf : Moment → List ℕ → List ℕ → ℕ → ℕ → TimeFacts
-timeOf moment c54 c55 day micro =
+unfoldable pub timeOf : List ℕ → Moment → ℕ → ℕ → TimeFacts
+timeOf line moment day micro =
     record {
       «not_before» = notBefore moment day micro;
       «too_old» = tooOld (moment .day) day;
-      past54 = isPast c54 (moment .day);
-      past55 = isPast c55 (moment .day);
+      past54 = isPast (cell line 54) (moment .day);
+      past55 = isPast (cell line 55) (moment .day);
     }
 
-unfoldable pub moneyOf : List ℕ → List ℕ → List ℕ → List ℕ → List ℕ → List ℕ → ℕ → MoneyFacts
-moneyOf ccy c31 c34 c44 c45 c52 t =
+unfoldable pub moneyOf : List ℕ → List ℕ → ℕ → MoneyFacts
+moneyOf line ccy t =
     record {
-      quantity = quantityCurrencyWrong ccy c31 t;
-      price = currencyWrong ccy c34 t;
-      notional = currencyWrong ccy c44 t;
-      second = currencyWrong ccy (secondCurrency c45) t;
-      strike = currencyWrong ccy c52 t;
+      quantity = quantityCurrencyWrong ccy (cell line 31) t;
+      price = currencyWrong ccy (cell line 34) t;
+      notional = currencyWrong ccy (cell line 44) t;
+      second = currencyWrong ccy (secondCurrency (cell line 45)) t;
+      strike = currencyWrong ccy (cell line 52) t;
     }
 
-unfoldable pub tradeOf : List ℕ → List ℕ → List ℕ → List ℕ → List ℕ → List ℕ → List ℕ → List ℕ → ℕ → ℕ → ℕ → TradeFacts
-tradeOf ven ins c3 c25 c36 c37 c41 c35 quantity price t =
+-- `quantity` and `price` are what cells 30 and 33 hold
+unfoldable pub tradeOf : List ℕ → List ℕ → List ℕ → ℕ → ℕ → ℕ → TradeFacts
+tradeOf line ven ins quantity price t =
     record {
-      «no_code» = present c3 && (off c36 || kind2 ven c36 t || kind3 ven c36 t);
-      unknown = not (off c36) && not (kind1 ven c36 t || kind2 ven c36 t || kind3 ven c36 t);
-      «listed_off» = says "XXXX" c36 && instrumentRows ins c41 t .listed;
-      transmitted = says "TRUE" c25 && not (off c36);
-      «no_branch» = (kind1 ven c36 t || kind3 ven c36 t) && blank c37;
-      branch = present c37 && (off c36 || kind2 ven c36 t);
-      «debt_in_units» = instrumentRows ins c41 t .debt && (eqb quantity 2 && eqb price 4);
-      «bond_without_net» = instrumentRows ins c41 t .bond && blank c35;
+      «no_code» = present (cell line 3) && (off (cell line 36) || kind2 ven (cell line 36) t || kind3 ven (cell line 36) t);
+      unknown = not (off (cell line 36)) && not (kind1 ven (cell line 36) t || kind2 ven (cell line 36) t || kind3 ven (cell line 36) t);
+      «listed_off» = says "XXXX" (cell line 36) && instrumentRows ins (cell line 41) t .listed;
+      transmitted = says "TRUE" (cell line 25) && not (off (cell line 36));
+      «no_branch» = (kind1 ven (cell line 36) t || kind3 ven (cell line 36) t) && blank (cell line 37);
+      branch = present (cell line 37) && (off (cell line 36) || kind2 ven (cell line 36) t);
+      «debt_in_units» = instrumentRows ins (cell line 41) t .debt && (eqb quantity 2 && eqb price 4);
+      «bond_without_net» = instrumentRows ins (cell line 41) t .bond && blank (cell line 35);
     }
 
 -- 251, 290 and 570; `entity` says whether one of the parties is the executing entity
-unfoldable pub dealOf : List ℕ → List ℕ → List ℕ → List ℕ → List ℕ → Bool → DealFacts
-dealOf c25 c26 c27 c29 c57 entity =
+unfoldable pub dealOf : List ℕ → Bool → DealFacts
+dealOf line entity =
     record {
-      transmitted = (says "DEAL" c29 || says "MTCH" c29) && not (says "FALSE" c25);
-      «not_own» = says "DEAL" c29 && not entity;
-      undecided = says "DEAL" c29 && (blank c26 && blank c27 && blank c57);
+      transmitted = (says "DEAL" (cell line 29) || says "MTCH" (cell line 29)) && not (says "FALSE" (cell line 25));
+      «not_own» = says "DEAL" (cell line 29) && not entity;
+      undecided = says "DEAL" (cell line 29) && (blank (cell line 26) && blank (cell line 27) && blank (cell line 57));
     }
 
 unfoldable pub factsOf : Call → Facts
@@ -107,18 +108,14 @@ factsOf c =
       live = isLive (standingOf c);
       absent = isAbsent (standingOf c);
       cancelled = isCancelled (standingOf c);
-      entity = entityOf (c .lei) (at c 4) (at c 5) (at c 6) (at c 26) (at c 27) (T c) (c .day);
+      entity = entityOf (c .line) (c .lei) (T c) (c .day);
       parties = partiesOf (c .line) (c .lei) (c .cty) (c .ven) (T c);
       country8 = countryWrong (c .cty) (at c 8) (T c);
       country17 = countryWrong (c .cty) (at c 17) (T c);
       country37 = countryWrong (c .cty) (at c 37) (T c);
-      time = timeOf (momentOf (at c 28)) (at c 54) (at c 55) (c .day) (c .micro);
-      deal =
-          dealOf (at c 25) (at c 26) (at c 27) (at c 29) (at c 57)
-          (isEntity allowed7 (at c 7) (at c 4) || isEntity allowed7 (at c 16) (at c 4));
-      money = moneyOf (c .ccy) (at c 31) (at c 34) (at c 44) (at c 45) (at c 52) (T c);
-      trade =
-          tradeOf (c .ven) (c .ins) (at c 3) (at c 25) (at c 36) (at c 37) (at c 41) (at c 35)
-          (heldQuantity (at c 30)) (heldPrice (at c 33)) (T c);
+      time = timeOf (c .line) (momentOf (at c 28)) (c .day) (c .micro);
+      deal = dealOf (c .line) (isEntity allowed7 (at c 7) (at c 4) || isEntity allowed7 (at c 16) (at c 4));
+      money = moneyOf (c .line) (c .ccy) (T c);
+      trade = tradeOf (c .line) (c .ven) (c .ins) (heldQuantity (at c 30)) (heldPrice (at c 33)) (T c);
       cfi = cfiFindings (holdings (c .line)) (at c 43);
     }

@@ -1,5 +1,6 @@
 // The LEIs of the executing and the submitting entity, and of the firms that transmitted an order.
 ghost use mathlib.Core.Path.{_≡_};
+ghost use Rattle.cells.specs.Split.{Tabled};
 ghost use Rattle.facts.specs.Words.{leiWrong};
 ghost use Rattle.facts.specs.Facts.{leiFit, entityOf};
 
@@ -44,24 +45,24 @@ pub fn lei_wrong(lei: &[u8], s: &[u8], day: u32) -> bool
 }
 
 // Cells 4, 5, 6, 26 and 27, on T and on the submission day.
-pub fn entity_facts(
+pub fn entity_facts<'a, 't>(
+    line: &'a [u8],
+    starts: &'t [usize; 65],
+    ends: &'t [usize; 65],
     lei: &[u8],
-    c4: &[u8],
-    c5: &[u8],
-    c6: &[u8],
-    c26: &[u8],
-    c27: &[u8],
     t: u32,
     day: u32,
 ) -> EntityFacts
-    ensures { λ r. ⌜ r ≡ entityOf (now (lei .entry)) (now (c4 .entry)) (now (c5 .entry)) (now (c6 .entry)) (now (c26 .entry)) (now (c27 .entry)) t day ⌝ }
+    requires { ⌜ Tabled (now line) (now starts) (now ends) ⌝ }
+    ensures { λ r. ⌜ r ≡ entityOf (now (line .entry)) (now (lei .entry)) t day ⌝ }
 {
-    let own = lei_fit(lei, c4, t);
+    let own = lei_fit(lei, cells::cell(line, starts, ends, 4), t);
+    let c5 = cells::cell(line, starts, ends, 5);
     EntityFacts {
         member: text::same(c5, b"TRUE") & !own.unlapsed,
         other: text::same(c5, b"FALSE") & !own.any,
-        submitter: !lei_fit(lei, c6, day).any,
-        buyers_firm: lei_wrong(lei, c26, t),
-        sellers_firm: lei_wrong(lei, c27, t),
+        submitter: !lei_fit(lei, cells::cell(line, starts, ends, 6), day).any,
+        buyers_firm: lei_wrong(lei, cells::cell(line, starts, ends, 26), t),
+        sellers_firm: lei_wrong(lei, cells::cell(line, starts, ends, 27), t),
     }
 }

@@ -99,14 +99,25 @@ pub fn good_cells(found: &[bool; 65]) -> [bool; 66]
 }
 
 // `entity`: one of the parties is the executing entity.
-fn deal_facts(c25: &[u8], c26: &[u8], c27: &[u8], c29: &[u8], c57: &[u8], entity: bool) -> DealFacts
-    ensures { λ r. ⌜ r ≡ dealOf (now (c25 .entry)) (now (c26 .entry)) (now (c27 .entry)) (now (c29 .entry)) (now (c57 .entry)) entity ⌝ }
+fn deal_facts<'a, 't>(
+    line: &'a [u8],
+    starts: &'t [usize; 65],
+    ends: &'t [usize; 65],
+    entity: bool,
+) -> DealFacts
+    requires { ⌜ Tabled (now line) (now starts) (now ends) ⌝ }
+    ensures { λ r. ⌜ r ≡ dealOf (now (line .entry)) entity ⌝ }
 {
+    let c29 = cells::cell(line, starts, ends, 29);
     let deal = text::same(c29, b"DEAL");
+    let kept = text::same(cells::cell(line, starts, ends, 25), b"FALSE");
+    let buyers_firm = cells::cell(line, starts, ends, 26).len() != 0;
+    let sellers_firm = cells::cell(line, starts, ends, 27).len() != 0;
+    let decider = cells::cell(line, starts, ends, 57).len() != 0;
     DealFacts {
-        transmitted: (deal | text::same(c29, b"MTCH")) & !text::same(c25, b"FALSE"),
+        transmitted: (deal | text::same(c29, b"MTCH")) & !kept,
         not_own: deal & !entity,
-        undecided: deal & ((c26.len() == 0) & (c27.len() == 0) & (c57.len() == 0)),
+        undecided: deal & (!buyers_firm & !sellers_firm & !decider),
     }
 }
 
@@ -129,15 +140,12 @@ pub fn line_facts<'a, 't>(
     ensures { λ r. ⌜ ((register : List ℕ) → standing ≡ pairStands register (now (line .entry)) → r ≡ factsOf (call (now (line .entry)) (now (lei .entry)) (now (cty .entry)) (now (ccy .entry)) (now (ven .entry)) (now (ins .entry)) register day micro)) ⌝ }
 {
     let c1 = cells::cell(line, starts, ends, 1);
-    let c25 = cells::cell(line, starts, ends, 25);
-    let c26 = cells::cell(line, starts, ends, 26);
-    let c27 = cells::cell(line, starts, ends, 27);
     let moment = moment_of(cells::cell(line, starts, ends, 28));
     let t = moment.day;
-    let c37 = cells::cell(line, starts, ends, 37);
     let parties = parties_facts(line, starts, ends, lei, cty, ven, t);
     let buyer = parties.buyer;
     let seller = parties.seller;
+    let own = buyer.entity | seller.entity;
     let held = holdings(line, starts, ends);
     Facts {
         new: text::same(c1, b"NEW"),
@@ -146,57 +154,15 @@ pub fn line_facts<'a, 't>(
         live: is_live(standing),
         absent: is_absent(standing),
         cancelled: is_cancelled(standing),
-        entity: entity_facts(
-            lei,
-            cells::cell(line, starts, ends, 4),
-            cells::cell(line, starts, ends, 5),
-            cells::cell(line, starts, ends, 6),
-            c26,
-            c27,
-            t,
-            day,
-        ),
+        entity: entity_facts(line, starts, ends, lei, t, day),
         parties,
         country8: country_wrong(cty, cells::cell(line, starts, ends, 8), t),
         country17: country_wrong(cty, cells::cell(line, starts, ends, 17), t),
-        country37: country_wrong(cty, c37, t),
-        time: time_facts(
-            moment,
-            cells::cell(line, starts, ends, 54),
-            cells::cell(line, starts, ends, 55),
-            day,
-            micro,
-        ),
-        deal: deal_facts(
-            c25,
-            c26,
-            c27,
-            cells::cell(line, starts, ends, 29),
-            cells::cell(line, starts, ends, 57),
-            buyer.entity | seller.entity,
-        ),
-        money: money_facts(
-            ccy,
-            cells::cell(line, starts, ends, 31),
-            cells::cell(line, starts, ends, 34),
-            cells::cell(line, starts, ends, 44),
-            cells::cell(line, starts, ends, 45),
-            cells::cell(line, starts, ends, 52),
-            t,
-        ),
-        trade: trade_facts(
-            ven,
-            ins,
-            cells::cell(line, starts, ends, 3),
-            c25,
-            cells::cell(line, starts, ends, 36),
-            c37,
-            cells::cell(line, starts, ends, 41),
-            cells::cell(line, starts, ends, 35),
-            held[30],
-            held[33],
-            t,
-        ),
+        country37: country_wrong(cty, cells::cell(line, starts, ends, 37), t),
+        time: time_facts(line, starts, ends, moment, day, micro),
+        deal: deal_facts(line, starts, ends, own),
+        money: money_facts(line, starts, ends, ccy, t),
+        trade: trade_facts(line, starts, ends, ven, ins, held[30], held[33], t),
         cfi: cfi::cfi_findings(&held, cells::cell(line, starts, ends, 43)),
     }
 }

@@ -1,5 +1,6 @@
 // Currencies.
 ghost use mathlib.Core.Path.{_≡_};
+ghost use Rattle.cells.specs.Split.{Tabled};
 ghost use Rattle.facts.specs.Words.{noMoney, currencyWrong, quantityCurrencyWrong, secondCurrency};
 ghost use Rattle.facts.specs.Facts.{moneyOf};
 
@@ -46,22 +47,22 @@ fn second_currency(s: &[u8]) -> &[u8]
 }
 
 // Cells 31, 34, 44, 45 and 52, on T.
-pub fn money_facts(
+pub fn money_facts<'a, 't>(
+    line: &'a [u8],
+    starts: &'t [usize; 65],
+    ends: &'t [usize; 65],
     ccy: &[u8],
-    c31: &[u8],
-    c34: &[u8],
-    c44: &[u8],
-    c45: &[u8],
-    c52: &[u8],
     t: u32,
 ) -> MoneyFacts
-    ensures { λ r. ⌜ r ≡ moneyOf (now (ccy .entry)) (now (c31 .entry)) (now (c34 .entry)) (now (c44 .entry)) (now (c45 .entry)) (now (c52 .entry)) t ⌝ }
+    requires { ⌜ Tabled (now line) (now starts) (now ends) ⌝ }
+    ensures { λ r. ⌜ r ≡ moneyOf (now (line .entry)) (now (ccy .entry)) t ⌝ }
 {
+    let second = second_currency(cells::cell(line, starts, ends, 45));
     MoneyFacts {
-        quantity: quantity_currency_wrong(ccy, c31, t),
-        price: currency_wrong(ccy, c34, t),
-        notional: currency_wrong(ccy, c44, t),
-        second: currency_wrong(ccy, second_currency(c45), t),
-        strike: currency_wrong(ccy, c52, t),
+        quantity: quantity_currency_wrong(ccy, cells::cell(line, starts, ends, 31), t),
+        price: currency_wrong(ccy, cells::cell(line, starts, ends, 34), t),
+        notional: currency_wrong(ccy, cells::cell(line, starts, ends, 44), t),
+        second: currency_wrong(ccy, second, t),
+        strike: currency_wrong(ccy, cells::cell(line, starts, ends, 52), t),
     }
 }

@@ -1,5 +1,6 @@
 // Days and moments.
 ghost use mathlib.Core.Path.{_≡_};
+ghost use Rattle.cells.specs.Split.{Tabled};
 ghost use Rattle.facts.specs.Words.{momentIn, momentOf, dayIn, dayOf, isLate, isPast, notBefore, tooOld};
 ghost use Rattle.facts.specs.Facts.{timeOf};
 use calendar::Date;
@@ -73,14 +74,22 @@ fn too_old(t: u32, s: u32) -> bool
 }
 
 // The moment of cell 28 and cells 54 and 55, against the submission moment.
-pub fn time_facts(moment: Moment, c54: &[u8], c55: &[u8], day: u32, micro: u64) -> TimeFacts
-    ensures { λ r. ⌜ r ≡ timeOf moment (now (c54 .entry)) (now (c55 .entry)) day micro ⌝ }
+pub fn time_facts<'a, 't>(
+    line: &'a [u8],
+    starts: &'t [usize; 65],
+    ends: &'t [usize; 65],
+    moment: Moment,
+    day: u32,
+    micro: u64,
+) -> TimeFacts
+    requires { ⌜ Tabled (now line) (now starts) (now ends) ⌝ }
+    ensures { λ r. ⌜ r ≡ timeOf (now (line .entry)) moment day micro ⌝ }
 {
     let t = moment.day;
     TimeFacts {
         not_before: not_before(moment, day, micro),
         too_old: too_old(t, day),
-        past54: is_past(c54, t),
-        past55: is_past(c55, t),
+        past54: is_past(cells::cell(line, starts, ends, 54), t),
+        past55: is_past(cells::cell(line, starts, ends, 55), t),
     }
 }

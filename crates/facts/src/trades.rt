@@ -20,33 +20,35 @@ pub struct TradeFacts {
 }
 
 // The cells of a trade that the venue's and the instrument's rules read: 3, 25, 35, 36, 37 and 41, with what 30 and 33 hold.
-pub fn trade_facts(
+pub fn trade_facts<'a, 't>(
+    line: &'a [u8],
+    starts: &'t [usize; 65],
+    ends: &'t [usize; 65],
     ven: &[u8],
     ins: &[u8],
-    c3: &[u8],
-    c25: &[u8],
-    c36: &[u8],
-    c37: &[u8],
-    c41: &[u8],
-    c35: &[u8],
     quantity: u8,
     price: u8,
     t: u32,
 ) -> TradeFacts
-    ensures { λ r. ⌜ r ≡ tradeOf (now (ven .entry)) (now (ins .entry)) (now (c3 .entry)) (now (c25 .entry)) (now (c36 .entry)) (now (c37 .entry)) (now (c41 .entry)) (now (c35 .entry)) quantity price t ⌝ }
+    requires { ⌜ Tabled (now line) (now starts) (now ends) ⌝ }
+    ensures { λ r. ⌜ r ≡ tradeOf (now (line .entry)) (now (ven .entry)) (now (ins .entry)) quantity price t ⌝ }
 {
+    let c36 = cells::cell(line, starts, ends, 36);
     let venue = lists::venue_rows(ven, c36, t);
-    let rows = lists::instrument_rows(ins, c41, t);
+    let rows = lists::instrument_rows(ins, cells::cell(line, starts, ends, 41), t);
     let off = is_off(c36);
+    let coded = cells::cell(line, starts, ends, 3).len() != 0;
+    let net = cells::cell(line, starts, ends, 35).len() != 0;
+    let branch = cells::cell(line, starts, ends, 37).len() != 0;
     TradeFacts {
-        no_code: (c3.len() != 0) & (off | venue.kind2 | venue.kind3),
+        no_code: coded & (off | venue.kind2 | venue.kind3),
         unknown: !off & !(venue.kind1 | venue.kind2 | venue.kind3),
         listed_off: text::same(c36, b"XXXX") & rows.listed,
-        transmitted: text::same(c25, b"TRUE") & !off,
-        no_branch: (venue.kind1 | venue.kind3) & (c37.len() == 0),
-        branch: (c37.len() != 0) & (off | venue.kind2),
+        transmitted: text::same(cells::cell(line, starts, ends, 25), b"TRUE") & !off,
+        no_branch: (venue.kind1 | venue.kind3) & !branch,
+        branch: branch & (off | venue.kind2),
         debt_in_units: rows.debt & ((quantity == 2) & (price == 4)),
-        bond_without_net: rows.bond & (c35.len() == 0),
+        bond_without_net: rows.bond & !net,
     }
 }
 

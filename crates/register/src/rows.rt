@@ -1,13 +1,13 @@
 // Where a pair stands in a register, and how.
 ghost use mathlib.Core.Path.{_≡_};
-ghost use Prim.Native.Nat.{_+_, min};
-ghost use lib.ListN.{getD};
+ghost use Prim.Native.Nat.{_+_};
+ghost use lib.ListN.{take, getD};
 ghost use Rattle.register.specs.Rows.{firstRow, standing, standingAt};
 use crate::frame::framed;
 use crate::frame::is_used;
 use crate::frame::used;
 use text::byte_at;
-use text::rest;
+use text::head;
 use text::starts_with;
 
 pub enum Found {
@@ -22,19 +22,15 @@ pub enum Standing {
     Cancelled,
 }
 
-// The place of the reference's last byte, or of its length where it has none: there pairs differ most often.
-fn telling_place(pair: &[u8; 73]) -> usize
-    ensures { λ r. ⌜ r ≡ min (20 + getD (now (pair .entry)) 20 0) 72 ⌝ }
+// A pair without the zeros behind its reference.
+fn unfilled(pair: &[u8; 73]) -> &[u8]
+    ensures { λ r. ⌜ now r ≡ take (21 + getD (now (pair .entry)) 20 0) (now (pair .entry)) ⌝ }
 {
-    let place = 20 + byte_at(pair, 20) as usize;
-    if place < 72 {
-        return place;
-    }
-    72
+    head(pair, 21 + byte_at(pair, 20) as usize)
 }
 
-// The first used row whose first 73 bytes are the pair's. They are compared only in rows that have the pair's byte at the
-// telling place, which few others have.
+// The first used row whose first 73 bytes are the pair's. Words are compared from their end, and references mostly differ
+// there, so the pair is compared first without its zeros.
 pub fn find(register: &[u8], pair: &[u8; 73]) -> Found
     ensures { λ r. ⌜ r ≡ firstRow 1 0 (now (register .entry)) (now (pair .entry)) ⌝ }
 {
@@ -42,18 +38,20 @@ pub fn find(register: &[u8], pair: &[u8; 73]) -> Found
         return Found::Nowhere;
     }
     let count = used(register) as usize;
-    let place = telling_place(pair);
-    let byte = byte_at(pair, place);
+    let whole = &pair[..];
+    let short = unfilled(pair);
     let mut i = 0;
     let mut at = 9;
     while i < count {
-        if byte_at(register, at + place) == byte {
-            if starts_with(rest(register, at), pair) {
+        let end = at + 74;
+        let row = &register[at..end];
+        if starts_with(row, short) {
+            if starts_with(row, whole) {
                 return Found::At(i);
             }
         }
         i += 1;
-        at += 74;
+        at = end;
     }
     Found::Nowhere
 }

@@ -8,7 +8,7 @@ use native.Mathlib.Omega.{arith}
 use borrow.Author.Tests.{eq-eqb, ne-eqb}
 use lib.Dec.{eqb, eqb·suc-zero, eqb·suc-suc}
 use lib.ListN.{length, getD, take, drop, drop-of-length-le, length-drop}
-use lib.Seq.{drop-drop, take-all}
+use lib.Seq.{drop-drop, take-all, take-nil}
 use Rattle.text.specs.Word.{startsWith, same, among, oneOf}
 use Rattle.text.specs.Shape.{suits, shape}
 use Rattle.text.proofs.Lists.{rest-at}
@@ -61,13 +61,25 @@ module _ {word s : List ℕ} {n : ℕ} (so-far : EndedSoFar word s n) where
       let z : n ≡ 0 = omega arith in
       sym (so-far .left ∙ rw z)
 
--- a text that differs from the word at a place does not begin with it
-pub differs-at : (word s : List ℕ) (i : ℕ) → i < length word → (getD s i 0 ≡ getD word i 0 → ⊥) → startsWith word s ≡ false
+-- a text that does not begin as the word begins does not begin with it
+pub begins-otherwise : (n : ℕ) (word s : List ℕ) → startsWith (take n word) s ≡ false → startsWith word s ≡ false
 unfolding startsWith
-differs-at [] s i h e = absurd (omega arith)
-differs-at (y ∷ word) [] i h e = refl
-differs-at (y ∷ word) (x ∷ s) zero h e = rw (ne-eqb x y e)
-differs-at (y ∷ word) (x ∷ s) (suc i) h e = rw (differs-at word s i (omega arith) e) (and-false (eqb x y))
+begins-otherwise zero word s e = absurd (true≢false e)
+begins-otherwise (suc n) [] s e = e
+begins-otherwise (suc n) (y ∷ word) [] e = refl
+begins-otherwise (suc n) (y ∷ word) (x ∷ s) e = go (eqb x y) (begins-otherwise n word s) e
+  where
+    go : (t : Bool) → (startsWith (take n word) s ≡ false → startsWith word s ≡ false) → (t && startsWith (take n word) s) ≡ false → (t && startsWith word s) ≡ false
+    go true f g = f g
+    go false f g = refl
+
+-- what is long enough to begin with the word tells as much as all of the text
+pub begins-within : (n : ℕ) (word s : List ℕ) → length word ≤ n → startsWith word (take n s) ≡ startsWith word s
+unfolding startsWith
+begins-within n [] s h = refl
+begins-within n (y ∷ word) [] h = ap (startsWith (y ∷ word)) (take-nil n)
+begins-within zero (y ∷ word) (x ∷ s) h = absurd (omega arith)
+begins-within (suc n) (y ∷ word) (x ∷ s) h = ap (λ (t : Bool). eqb x y && t) (begins-within n word s (omega arith))
 
 -- a text is the word if it begins with it and is as long
 pub same-is : (word s : List ℕ) → (eqb (length s) (length word) && startsWith word s) ≡ same word s
