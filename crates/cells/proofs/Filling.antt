@@ -74,9 +74,22 @@ module _ {line starts ends : List ℕ} {bars i : ℕ} (so-far : Filled line star
         opened = so-far .opened;
       }
 
-  pub filled-over : bars ≡ 64 → getD line i 0 ≡ 124 → notSplit ≡ splitOf line
+  -- what was written for a bar that the byte is not stands behind what counts
+  pub filled-written : bars < 64 → (getD line i 0 ≡ 124 → ⊥) → Filled line (set starts (bars + 1) (i + 1)) (set ends bars i) bars (i + 1)
+  filled-written few e =
+      let f : Filled line starts ends bars (i + 1) = filled-other e in
+      record {
+        within = f .within;
+        few = f .few;
+        wide = (length-set starts (bars + 1) (i + 1) ∙ f .wide .0, length-set ends bars i ∙ f .wide .1);
+        count = f .count;
+        closed = rw (take-set-le bars ends bars i (omega arith)) (f .closed);
+        opened = rw (take-set-le (bars + 1) starts (bars + 1) (i + 1) (omega arith), take-set-le bars ends bars i (omega arith)) (f .opened);
+      }
+
+  pub filled-over : 64 ≤ bars → getD line i 0 ≡ 124 → notSplit ≡ splitOf line
   unfolding splitOf
-  filled-over few e = rw (ne-eqb (barsOf line) 64 (λ q. omega (arith, bars-bar line i h e)))
+  filled-over few e = rw (ne-eqb (barsOf line) 64 (λ q. omega (arith, bars-bar line i h e, so-far .count)))
 
 module _ {line starts ends : List ℕ} {bars i : ℕ} (so-far : Filled line starts ends bars i) (h : length line ≤ i) where
   count-is : bars ≡ barsOf line

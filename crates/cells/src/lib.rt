@@ -22,6 +22,8 @@ fn not_split() -> SplitLine
     }
 }
 
+// Both tables are written at every byte, and the next bar's entry is left behind where the byte is a bar: to ask first would cost
+// more, since nothing foretells where a cell ends.
 pub fn split(line: &[u8]) -> SplitLine
     ensures { λ r. ⌜ r ≡ splitOf (now (line .entry)) ⌝ }
 {
@@ -29,13 +31,15 @@ pub fn split(line: &[u8]) -> SplitLine
     let mut bars = 0;
     let mut i = 0;
     while i < line.len() {
-        if line[i] == b'|' {
-            if bars == 64 {
-                return not_split();
-            }
+        let bar = line[i] == b'|';
+        if bars < 64 {
             table.ends[bars] = i;
-            bars += 1;
-            table.starts[bars] = i + 1;
+            table.starts[bars + 1] = i + 1;
+            if bar {
+                bars += 1;
+            }
+        } else if bar {
+            return not_split();
         }
         i += 1;
     }

@@ -11,19 +11,25 @@ abbrev μ-loop : tie.MeasureT-loop
 μ-loop s word left₀ left = left
 
 returns : tie.Need-returns Inv-loop μ-loop
-returns c = too-short (c .before .args .word .now) (c .before .args .s .now) (omega arith)
-
-loop-holds : tie.Need-loop-holds Inv-loop μ-loop
-loop-holds c = ended-start (omega arith)
+returns c = too-short ((c .before .args) .word .now) ((c .before .args) .s .now) (omega arith)
 
 returns-2 : tie.Need-returns-2 Inv-loop μ-loop
-returns-2 c = ended-off (c .before .before .before .before .loop .inv) (omega arith) (c .if2 .taken)
-
-loop-again : tie.Need-loop-again Inv-loop μ-loop
-loop-again c = ended-on (c .before .before .before .before .loop .inv) (omega arith) (c .if2 .left)
+returns-2 c = ended-all (ended-start (omega arith)) (omega arith)
 
 returns-3 : tie.Need-returns-3 Inv-loop μ-loop
-returns-3 c = ended-all (c .before .loop .inv) (omega arith)
+returns-3 c = ended-off (ended-start (omega arith)) (omega arith) ((c .if3) .taken)
+
+loop-holds : tie.Need-loop-holds Inv-loop μ-loop
+loop-holds c = ended-on (ended-start (omega arith)) (omega arith) ((c .if3) .left)
+
+returns-4 : tie.Need-returns-4 Inv-loop μ-loop
+returns-4 c = ended-off ((c .before .before .before .before .loop) .inv) (omega arith) ((c .if4) .taken)
+
+loop-again : tie.Need-loop-again Inv-loop μ-loop
+loop-again c = ended-on ((c .before .before .before .before .loop) .inv) (omega arith) ((c .if4) .left)
+
+returns-5 : tie.Need-returns-5 Inv-loop μ-loop
+returns-5 c = ended-all ((c .before .loop) .inv) (omega arith)
 
 pub starts-with-spec : {M : Type 1} → statement M
 starts-with-spec =
@@ -32,11 +38,16 @@ starts-with-spec =
     Inv-loop
     μ-loop
     returns
+    returns-2
+    (λ c. omega arith)
+    (λ c. omega arith)
+    (λ c. omega arith)
+    returns-3
     loop-holds
     (λ c. omega arith)
     (λ c. omega arith)
     (λ c. omega arith)
-    returns-2
+    returns-4
     (λ c. omega arith)
     loop-again
-    returns-3)
+    returns-5)
