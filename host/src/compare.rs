@@ -4,7 +4,7 @@ use std::fmt::Write as _;
 use std::io::{self, BufRead, Write};
 
 use crate::codes::{answer_words, words, CODES};
-use crate::file::{Answered, Case, Reader};
+use crate::file::{Answered, Case, Reader, MARKS};
 use crate::reference::Outcome;
 
 /// How many differences are printed in full.
@@ -73,66 +73,81 @@ fn shown(line: &[u8]) -> String {
     text
 }
 
-fn outcome(name: &str, Outcome { answer, count, words: [first, second, third] }: Outcome) -> String {
-    format!(
-        "  {name}: answer {answer} ({}), count {count}, words {first:016x} {second:016x} {third:016x}\n",
-        answer_words(answer)
-    )
-}
-
 /// One difference in words.
 fn describe(number: usize, case: &Case, expected: &Answered, ours: Option<&Answered>) -> String {
-    let mut text = format!(
-        "case {number}\n  line ({} bytes): {}\n  submitted {} at microsecond {}; {} findings entries; register of {} bytes{}\n",
-        case.line.len(),
-        shown(&case.line),
-        case.day,
-        case.micro,
-        case.findings.len(),
-        case.register.len(),
-        match case.register.get(5..9) {
-            Some(used) => format!(", used {}", u32::from_le_bytes([used[0], used[1], used[2], used[3]])),
-            None => String::new(),
-        },
-    );
-    for (mark, list) in ["LEI", "CTY", "CCY", "VEN", "INS"].iter().zip(&case.lists) {
-        let _ = write!(text, "  {mark} {} bytes", list.len());
+    let mut text = format!("case {number}\n{}{}", call(case), outcome("expected", expected.outcome));
+    match ours {
+        None => text += "  ours: the results end before this case\n",
+        Some(ours) => {
+            text += &outcome("ours", ours.outcome);
+            text += &codes(expected, ours);
+            text += &buffers(case, expected, ours);
+        }
+    }
+    text
+}
+
+fn call(case: &Case) -> String {
+    let mut text = format!("  line ({} bytes): {}\n", case.line.len(), shown(&case.line));
+    let _ = write!(text, "  submitted {} at microsecond {}; ", case.day, case.micro);
+    let _ = write!(text, "{} findings entries; register of {} bytes", case.findings.len(), case.register.len());
+    if let Some(&[_, _, _, _, _, a, b, c, d]) = case.register.first_chunk() {
+        let _ = write!(text, ", {} rows used", u32::from_le_bytes([a, b, c, d]));
+    }
+    for (mark, list) in MARKS.iter().zip(&case.lists) {
+        let _ = write!(text, "; {mark} {} bytes", list.len());
     }
     text.push('\n');
-    text += &outcome("expected", expected.outcome);
-    let Some(ours) = ours else {
-        text += "  ours: the results end before this case\n";
-        return text;
+    text
+}
+
+fn outcome(name: &str, Outcome { answer, count, words: [first, second, third] }: Outcome) -> String {
+    let meaning = answer_words(answer);
+    format!("  {name}: answer {answer} ({meaning}), count {count}, words {first:016x} {second:016x} {third:016x}\n")
+}
+
+/// The codes listed and the bits set, in words where only one side has them.
+fn codes(expected: &Answered, ours: &Answered) -> String {
+    let (listed, found) = (expected.codes(), ours.codes());
+    let without = |these: &[u16], those: &[u16]| -> Vec<u16> {
+        these.iter().copied().filter(|code| !those.contains(code)).collect()
     };
-    text += &outcome("ours    ", ours.outcome);
-    let list = |text: &mut String, name: &str, codes: &mut dyn Iterator<Item = u16>| {
+    let both = listed.iter().copied().filter(|code| found.contains(code)).collect();
+    let (bits, our_bits) = (codes_of(expected.outcome.words), codes_of(ours.outcome.words));
+    let mut text = String::new();
+    for (name, codes) in [
+        ("in both", both),
+        ("only expected", without(listed, found)),
+        ("only ours", without(found, listed)),
+        ("bit only expected", without(&bits, &our_bits)),
+        ("bit only ours", without(&our_bits, &bits)),
+    ] {
         for code in codes {
             let _ = writeln!(text, "  {name}: {code} {}", words(code));
         }
-    };
-    let (theirs, found) = (expected.codes(), ours.codes());
-    list(&mut text, "in both", &mut theirs.iter().copied().filter(|code| found.contains(code)));
-    list(&mut text, "only expected", &mut theirs.iter().copied().filter(|code| !found.contains(code)));
-    list(&mut text, "only ours", &mut found.iter().copied().filter(|code| !theirs.contains(code)));
-    let bits = |these: &Answered, those: &Answered| {
-        let (these, those) = (these.outcome.words, those.outcome.words);
-        let only = move |place: usize| (these[place / 64] & !those[place / 64]) >> (place % 64) & 1 == 1;
-        CODES.iter().enumerate().filter(move |(place, _)| only(*place)).map(|(_, code)| *code)
-    };
-    list(&mut text, "bit only expected", &mut bits(expected, ours));
-    list(&mut text, "bit only ours", &mut bits(ours, expected));
-    let at = |these: &[u8], those: &[u8]| these.iter().zip(those).position(|(a, b)| a != b);
-    if let Some(at) = expected.findings.iter().zip(&ours.findings).position(|(a, b)| a != b) {
-        let (a, b) = (expected.findings[at], ours.findings[at]);
-        let _ = writeln!(text, "  findings entry {at}: expected {a}, ours {b}, before {}", case.findings[at]);
     }
-    if let Some(at) = at(&expected.register, &ours.register) {
-        let (a, b) = (expected.register[at], ours.register[at]);
-        let _ = write!(text, "  register byte {at}");
-        if at >= 9 {
-            let _ = write!(text, " (row {}, byte {} of it)", (at - 9) / 74, (at - 9) % 74);
-        }
-        let _ = writeln!(text, ": expected {a}, ours {b}, before {}", case.register[at]);
+    text
+}
+
+/// The codes whose bits are set.
+fn codes_of(words: [u64; 3]) -> Vec<u16> {
+    CODES.iter().enumerate().filter(|(place, _)| words[place / 64] >> (place % 64) & 1 == 1).map(|row| *row.1).collect()
+}
+
+/// The first entry and the first byte that differ.
+fn buffers(case: &Case, expected: &Answered, ours: &Answered) -> String {
+    let mut text = String::new();
+    if let Some(at) = (0..case.findings.len()).find(|&at| expected.findings[at] != ours.findings[at]) {
+        let (before, wanted, got) = (case.findings[at], expected.findings[at], ours.findings[at]);
+        let _ = writeln!(text, "  findings entry {at}: expected {wanted}, ours {got}, before {before}");
+    }
+    if let Some(at) = (0..case.register.len()).find(|&at| expected.register[at] != ours.register[at]) {
+        let (before, wanted, got) = (case.register[at], expected.register[at], ours.register[at]);
+        let place = match at.checked_sub(9) {
+            Some(at) => format!("row {}, byte {} of it", at / 74, at % 74),
+            None => "in its head".to_string(),
+        };
+        let _ = writeln!(text, "  register byte {at} ({place}): expected {wanted}, ours {got}, before {before}");
     }
     text
 }
@@ -141,35 +156,79 @@ fn describe(number: usize, case: &Case, expected: &Answered, ours: Option<&Answe
 mod tests {
     use super::*;
 
-    #[test]
-    fn differences_are_found() {
-        let mut cases = Vec::new();
+    /// The reference's cases and results for a seed.
+    fn answered() -> (Vec<u8>, Vec<u8>) {
+        let (mut cases, mut results) = (Vec::new(), Vec::new());
         crate::recipe::run(7, 300, &mut cases, io::sink()).unwrap();
-        let mut results = Vec::new();
         answer(&cases[..], &mut results).unwrap();
-        let compared = |results: &[u8]| {
-            let mut output = Vec::new();
-            let same = run(&cases[..], results, &mut output).unwrap();
-            let text = String::from_utf8(output).unwrap();
-            (same, text.lines().last().unwrap().to_string(), text)
-        };
-        let (same, last, _) = compared(&results);
-        assert!(same && last == "300 cases, 0 differences");
+        (cases, results)
+    }
 
-        // Any byte counts.
+    /// Whether all is the same, the last line printed, and all that is printed.
+    fn compared(cases: &[u8], results: &[u8]) -> (bool, String, String) {
+        let mut output = Vec::new();
+        let same = run(cases, results, &mut output).unwrap();
+        let text = String::from_utf8(output).unwrap();
+        (same, text.lines().last().unwrap().to_string(), text)
+    }
+
+    #[test]
+    fn any_byte_counts() {
+        let (cases, results) = answered();
+        let (same, last, _) = compared(&cases, &results);
+        assert!(same && last == "300 cases, 0 differences");
         for at in [0, 2, 4, 12, 28, 200, results.len() - 1] {
             let mut changed = results.clone();
             changed[at] ^= 1;
-            let (same, last, text) = compared(&changed);
+            let (same, last, text) = compared(&cases, &changed);
             assert!(!same && last == "300 cases, 1 differences", "{text}");
         }
-        // Results that end early or go on.
-        let (same, _, text) = compared(&results[..results.len() - 1]);
+    }
+
+    #[test]
+    fn results_that_end_early_or_go_on() {
+        let (cases, results) = answered();
+        let (same, _, text) = compared(&cases, &results[..results.len() - 1]);
         assert!(!same && text.contains("end before this case"));
-        let (same, _, text) = compared(&[&results[..], b"x"].concat());
+        let (same, _, text) = compared(&cases, &[&results[..], b"x"].concat());
         assert!(!same && text.contains("go on for 1 bytes"));
-        let (same, last, _) = compared(b"");
+        let (same, last, _) = compared(&cases, b"");
         assert!(!same && last == "300 cases, 300 differences");
+    }
+
+    #[test]
+    fn differences_are_told_in_words() {
+        let case = Case {
+            line: b"NEW|a\xff".to_vec(),
+            lists: std::array::from_fn(|_| b"123".to_vec().into()),
+            register: vec![0; 83],
+            day: 20250322,
+            micro: 7,
+            findings: vec![9; 137],
+        };
+        let mut expected =
+            Answered { findings: case.findings.clone(), register: case.register.clone(), ..Default::default() };
+        let mut ours = expected.clone();
+        expected.outcome = Outcome { answer: 0, count: 2, words: [3, 0, 0] };
+        expected.findings[..2].copy_from_slice(&[23, 24]);
+        ours.outcome = Outcome { answer: 9, count: 1, words: [1, 0, 1 << 8] };
+        ours.findings[0] = 23;
+        ours.register[82] = 1;
+        let told = describe(5, &case, &expected, Some(&ours));
+        for part in [
+            "case 5\n  line (6 bytes): NEW|a\\xff\n",
+            "at microsecond 7; 137 findings entries; register of 83 bytes, 0 rows used; LEI 3 bytes; CTY 3 bytes;",
+            "expected: answer 0 (judged), count 2, words 0000000000000003 0000000000000000 0000000000000000\n",
+            "ours: answer 9 (The line is over 4,096 bytes), count 1, words 0000000000000001 0000000000000000 00",
+            "in both: 23 A NEW line for a reference",
+            "only expected: 24 A cancellation of something that was never accepted",
+            "bit only expected: 24 A cancellation",
+            "bit only ours: 1065 Blank, or neither TRUE nor FALSE (65 securities financing flag)\n",
+            "findings entry 1: expected 24, ours 9, before 9\n",
+            "register byte 82 (row 0, byte 73 of it): expected 0, ours 1, before 0\n",
+        ] {
+            assert!(told.contains(part), "{part}\n{told}");
+        }
     }
 
     #[test]

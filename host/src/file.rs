@@ -1,4 +1,4 @@
-//! The file of cases, described in FORMAT.md: little-endian numbers, byte strings after a 32-bit length.
+//! The file of cases, described in docs/CASES.md: little-endian numbers, byte strings after a 32-bit length.
 
 use std::io::{self, BufRead, Read, Write};
 use std::rc::Rc;
@@ -11,6 +11,7 @@ pub const VERSION: u32 = 1;
 
 /// The kinds of records: 1 to 5 replace a list, 6 is a case.
 pub const LISTS: usize = 5;
+pub const MARKS: [&str; LISTS] = ["LEI", "CTY", "CCY", "VEN", "INS"];
 pub const CASE: u32 = 6;
 
 /// What a reader without heap may count on.
@@ -143,6 +144,14 @@ fn invalid(message: String) -> io::Error {
     io::Error::new(io::ErrorKind::InvalidData, message)
 }
 
+/// Says in words that the end came too early.
+fn cut_short(error: io::Error) -> io::Error {
+    match error.kind() {
+        io::ErrorKind::UnexpectedEof => invalid("the file of cases ends in the middle of a record".to_string()),
+        _ => error,
+    }
+}
+
 fn read_length(from: &mut impl Read, longest: usize) -> io::Result<usize> {
     let length = read_u32(from)? as usize;
     if length > longest {
@@ -209,15 +218,21 @@ pub struct Reader<R> {
 
 impl<R: BufRead> Reader<R> {
     pub fn new(mut from: R) -> io::Result<Reader<R>> {
-        if read_array(&mut from)? != MAGIC || read_u32(&mut from)? != VERSION {
+        let head: [u8; 12] = read_array(&mut from).map_err(cut_short)?;
+        let [m1, m2, m3, m4, v1, v2, v3, v4, c1, c2, c3, c4] = head;
+        if [m1, m2, m3, m4] != MAGIC || u32::from_le_bytes([v1, v2, v3, v4]) != VERSION {
             return Err(invalid("not a file of cases".to_string()));
         }
-        let cases = read_u32(&mut from)?;
+        let cases = u32::from_le_bytes([c1, c2, c3, c4]);
         Ok(Reader { from, cases, lists: std::array::from_fn(|_| Rc::from([])) })
     }
 
     /// The next case, or nothing at the end.
     pub fn next_case(&mut self) -> io::Result<Option<(Case, Answered)>> {
+        self.up_to_case().map_err(cut_short)
+    }
+
+    fn up_to_case(&mut self) -> io::Result<Option<(Case, Answered)>> {
         loop {
             if self.from.fill_buf()?.is_empty() {
                 return Ok(None);
@@ -243,5 +258,41 @@ impl<R: BufRead> Reader<R> {
         let expected = Answered::read(from, entries, register.len())?;
         let case = Case { line, lists: self.lists.clone(), register, day, micro, findings };
         Ok((case, expected))
+    }
+}
+
+#[cfg(test)]
+mod tests {
+    use super::*;
+
+    /// Reads all cases of a file.
+    fn all(bytes: &[u8]) -> io::Result<Vec<(Case, Answered)>> {
+        let mut reader = Reader::new(bytes)?;
+        std::iter::from_fn(|| reader.next_case().transpose()).collect()
+    }
+
+    #[test]
+    fn what_is_written_is_read() {
+        let mut recipe = crate::recipe::Recipe::new(3);
+        let cases: Vec<Case> = (0..150).map(|_| recipe.next_case().0).collect();
+        let mut bytes = Vec::new();
+        let mut writer = Writer::new(&mut bytes, cases.len()).unwrap();
+        for case in &cases {
+            writer.write(case, &case.judge()).unwrap();
+        }
+        writer.finish().unwrap();
+        let read = all(&bytes).unwrap();
+        assert!(read.iter().map(|(case, _)| case).eq(&cases));
+        assert!(read.iter().all(|(case, expected)| *expected == case.judge()));
+    }
+
+    #[test]
+    fn files_that_are_none() {
+        let message = |bytes: &[u8]| all(bytes).unwrap_err().to_string();
+        assert_eq!(message(b"CASE\x02\0\0\0\0\0\0\0"), "not a file of cases");
+        assert_eq!(message(b"CASE\x01"), "the file of cases ends in the middle of a record");
+        assert_eq!(message(b"CASE\x01\0\0\0\0\0\0\0\x06\0\0"), "the file of cases ends in the middle of a record");
+        assert_eq!(message(b"CASE\x01\0\0\0\0\0\0\0\x07\0\0\0"), "a record of kind 7");
+        assert!(all(b"CASE\x01\0\0\0\0\0\0\0").unwrap().is_empty());
     }
 }

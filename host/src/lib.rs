@@ -1,6 +1,14 @@
-//! A second reading of document 01, written independently of the proved checker, and the tools that hold the
-//! two against each other: `cases` makes calls with the results expected of them, `compare` looks at what the
-//! proved side answered, `coverage` counts what a file of cases reaches.
+//! A second reading of the paper that fixes the rules, written independently of the proved checker, and the tools
+//! that hold the two against each other: `cases` makes calls with the results expected of them, `compare` looks at
+//! what the proved side answered, `coverage` counts what a file of cases reaches.
+//!
+//! For benchmarks there are two functions:
+//!
+//! - `bench_day(seed: u64, count: usize) -> BenchDay` makes `count` lines with the lists (64 rows each), the register
+//!   (empty, with room for 1,024 rows, of which fewer are used in the end) and the moment to judge them by. Judged in
+//!   order, half of them are clean; the others have one finding or a few.
+//! - `sized_bench_day(seed: u64, count: usize, list_rows: usize, register_rows: usize) -> BenchDay` makes the same
+//!   lines over longer lists and a register with that many rows used before the first line.
 
 pub mod codes;
 pub mod compare;
@@ -9,3 +17,5 @@ pub mod file;
 pub mod program;
 pub mod recipe;
 pub mod reference;
+
+pub use recipe::{bench_day, sized_bench_day, BenchDay};

@@ -13,12 +13,15 @@ const USAGE: &str = "usage:
   host answer FILE RESULTS      write the reference's own results, as the proved side would
   host compare FILE RESULTS     hold the results of the proved side against them
   host coverage FILE [TIMES]    count what the cases reach; each code alone at least TIMES (5)
-  host program                  document 01's program: standard input to standard output
-The files are described in FORMAT.md.";
+  host program                  the paper's program: standard input to standard output
+The files are described in docs/CASES.md.";
 
 fn open(path: &str) -> Result<BufReader<File>, String> {
-    let file = File::open(path).map_err(|error| format!("{path}: {error}"))?;
-    Ok(BufReader::with_capacity(1 << 16, file))
+    File::open(path).map(BufReader::new).map_err(|error| format!("{path}: {error}"))
+}
+
+fn create(path: &str) -> Result<BufWriter<File>, String> {
+    File::create(path).map(BufWriter::new).map_err(|error| format!("{path}: {error}"))
 }
 
 fn run(arguments: &[&str]) -> Result<bool, Box<dyn Error>> {
@@ -27,13 +30,11 @@ fn run(arguments: &[&str]) -> Result<bool, Box<dyn Error>> {
         ["cases", seed, count, path] => {
             let seed = seed.parse().map_err(|_| format!("{seed}: not a seed"))?;
             let count = count.parse().map_err(|_| format!("{count}: not a number of cases"))?;
-            let file = File::create(path).map_err(|error| format!("{path}: {error}"))?;
-            recipe::run(seed, count, BufWriter::with_capacity(1 << 16, file), output)?;
+            recipe::run(seed, count, create(path)?, output)?;
             Ok(true)
         }
         ["answer", cases, results] => {
-            let file = File::create(results).map_err(|error| format!("{results}: {error}"))?;
-            compare::answer(open(cases)?, BufWriter::with_capacity(1 << 16, file))?;
+            compare::answer(open(cases)?, create(results)?)?;
             Ok(true)
         }
         ["compare", cases, results] => Ok(compare::run(open(cases)?, open(results)?, output)?),

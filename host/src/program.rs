@@ -1,4 +1,4 @@
-//! Document 01's program: judges each line of a report with five empty lists and a small register.
+//! The paper's program: judges each line of a report with five empty lists and a small register.
 
 use std::io::{self, BufRead, Write};
 
@@ -47,7 +47,7 @@ pub fn run(mut input: impl BufRead, mut output: impl Write) -> io::Result<()> {
 #[cfg(test)]
 mod tests {
     #[test]
-    fn the_example_of_document_01() {
+    fn the_papers_example() {
         let e = "00000000000000000098";
         let input = format!("h\nCXL|R1||{e}||{e}{}\nx\n", "|".repeat(59));
         let mut output = Vec::new();

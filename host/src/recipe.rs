@@ -4,9 +4,11 @@
 //! then knows what shall come out, from its own plain reading of the rules, and says so if the reference
 //! disagrees. Others are clean lines of all kinds, sequences over one register, and calls at random.
 
+mod bench;
 mod calls;
 mod classes;
 mod draft;
+mod kinds;
 mod rng;
 mod rules;
 mod values;
@@ -18,9 +20,11 @@ use std::io::{self, Write};
 use crate::codes::{words, CODES, COUNT};
 use crate::file::{Answered, Case, Writer, LONGEST_LINE};
 
-use classes::any_class;
-use draft::{Draft, Instrument, Maker, Want};
-use rng::{Rng, CAPITALS};
+pub use bench::{bench_day, sized_bench_day, BenchDay};
+
+use draft::{Draft, Maker, Want};
+use kinds::KINDS;
+use rng::Rng;
 use values::malformed;
 use world::World;
 
@@ -52,22 +56,6 @@ impl Intent {
     }
 }
 
-/// The kinds of clean lines.
-#[derive(Clone, Copy, Debug)]
-enum Kind {
-    Share,
-    Bond,
-    Option,
-    Future,
-    Swap,
-    Warrant,
-    Other,
-    Cancellation,
-}
-
-const KINDS: [Kind; 8] =
-    [Kind::Share, Kind::Bond, Kind::Option, Kind::Future, Kind::Swap, Kind::Warrant, Kind::Other, Kind::Cancellation];
-
 /// Makes one case after another.
 pub struct Recipe {
     maker: Maker,
@@ -91,11 +79,11 @@ impl Recipe {
     /// The next case, with what it shall come to.
     pub fn next_case(&mut self) -> (Case, Intent) {
         self.made += 1;
+        if self.made.is_multiple_of(BLOCK) {
+            self.maker.world = World::make(&mut self.maker.rng);
+        }
         if let Some(case) = self.waiting.pop_front() {
             return case;
-        }
-        if self.made % BLOCK == 0 {
-            self.maker.world = World::make(&mut self.maker.rng);
         }
         match self.maker.rng.below(100) {
             0..=59 => self.aimed(),
@@ -112,38 +100,36 @@ impl Recipe {
         }
     }
 
-    /// The next aim in turn. Over five rounds each is met twice, missed twice, and then hidden or accompanied
-    /// by the form of a cell.
+    /// The next aim in turn. Over six rounds each is met, missed, met and missed; in the last two a malformed cell
+    /// is added to the line of a code.
     fn aimed(&mut self) -> (Case, Intent) {
-        let (round, aim) = (self.aims / (COUNT + 11) % 5, self.aims % (COUNT + 11));
+        let (rounds, aim) = (self.aims / (COUNT + 11), self.aims % (COUNT + 11));
         self.aims += 1;
-        let hit = round % 2 == 0;
+        let round = rounds % 6;
         let maker = &mut self.maker;
         if aim >= COUNT {
-            return maker.refusal((aim - COUNT) as u16 + 1, hit);
+            return maker.refusal((aim - COUNT) as u16 + 1, round.is_multiple_of(2));
         }
         let code = CODES[aim];
-        if code > 1000 {
-            let (mut draft, mut intent) = maker.form(usize::from(code) - 1000, hit);
-            if round == 4 && code != 1001 {
-                intent = add_form(maker, &mut draft, &[usize::from(code) - 1000], vec![code]);
-            }
-            return within_length(maker.case(&draft), intent);
-        }
-        let (mut draft, codes) = maker.rule(code, hit);
-        let mut intent = Intent::Exactly(codes.clone());
-        if round == 4 {
-            let reads = rules::reads(code);
-            if maker.rng.one_in(2) {
-                // A form finding in a cell that the rule reads: the rule falls silent.
-                let cell = maker.rng.of(reads);
+        let hit = [0, 2, 4, 5].contains(&round);
+        let (mut draft, mut intent, reads) = if code > 1000 {
+            let (draft, intent) = maker.form(usize::from(code) - 1000, hit);
+            (draft, intent, &[][..])
+        } else {
+            let (draft, codes) = maker.rule(code, hit);
+            (draft, Intent::Exactly(codes), rules::reads(code))
+        };
+        match round {
+            // A form finding in a cell that the rule reads, each in turn: the rule falls silent.
+            4 if code < 1000 => {
+                let cell = reads[rounds / 6 % reads.len()];
                 let value = malformed(&mut maker.rng, cell);
                 draft.set(cell, value);
                 intent = Intent::Exactly(vec![1000 + cell as u16]);
-            } else {
-                // One in another cell stands beside it.
-                intent = add_form(maker, &mut draft, reads, codes);
             }
+            // One in another cell stands beside it. Beside 1001 nothing does.
+            4 | 5 if code != 1001 => intent = add_form(maker, &mut draft, intent, reads),
+            _ => {}
         }
         within_length(maker.case(&draft), intent)
     }
@@ -155,67 +141,32 @@ impl Recipe {
             .flat_map(|code| classes::patterns(*code).iter().map(|pattern| (*code, *pattern)))
             .collect();
         let (code, pattern) = all[self.patterns % all.len()];
-        let hit = self.patterns / all.len() % 2 == 0;
+        let hit = (self.patterns / all.len()).is_multiple_of(2);
         self.patterns += 1;
         let (draft, codes) = self.maker.class_rule(code, pattern, hit);
         (self.maker.case(&draft), Intent::Exactly(codes))
     }
 
-    /// The next kind of clean line in turn.
+    /// The next kind of clean line in turn; after all of them a cancellation.
     fn clean(&mut self) -> (Case, Intent) {
-        let kind = KINDS[self.kinds % KINDS.len()];
+        let kind = KINDS.get(self.kinds % (KINDS.len() + 1));
         self.kinds += 1;
-        let maker = &mut self.maker;
-        let t = maker.world.t;
-        let class = |maker: &mut Maker, first: u8, second: &[u8]| {
-            let mut class = any_class(&mut maker.rng);
-            class[0] = first;
-            class[1] = maker.rng.of(second);
-            Instrument::Class(class)
-        };
-        let instrument = match kind {
-            Kind::Share if maker.rng.one_in(2) => class(maker, b'E', b"SPCFLD"),
-            Kind::Share => Instrument::Listed(
-                maker.isin_where(|world, isin| world.instrument_listed(isin, t) && !world.listed_debt(isin, t)),
-            ),
-            Kind::Bond if maker.rng.one_in(2) => class(maker, b'D', b"BCTNEY"),
-            Kind::Bond => Instrument::Listed(maker.isin_where(|world, isin| world.listed_bond(isin, t))),
-            Kind::Option => class(maker, b'O', b"CPM"),
-            Kind::Future => class(maker, b'F', b"FC"),
-            Kind::Swap => class(maker, b'S', b"RTECFM"),
-            Kind::Warrant => class(maker, b'R', b"WF"),
-            Kind::Other if maker.rng.one_in(4) => Instrument::Nothing,
-            Kind::Other if maker.rng.one_in(4) => {
-                Instrument::Listed(maker.isin_where(|world, isin| world.instrument_listed(isin, t)))
-            }
-            Kind::Other => {
-                let first = maker.rng.of(b"HJCILKMT");
-                class(maker, first, CAPITALS)
-            }
-            Kind::Cancellation => Instrument::Nothing,
-        };
         let draft = match kind {
-            Kind::Cancellation => maker.cancellation(),
-            _ => {
-                // The list knows no instrument under XXXX.
-                let venue: fn(&world::Venue) -> bool = match instrument {
-                    Instrument::Listed(_) => |venue| venue.mic != *b"XXXX",
-                    _ => |_| true,
-                };
-                maker.clean(Want { t: Some(t), venue: Some(venue), instrument: Some(instrument), ..Want::default() })
-            }
+            Some(kind) => self.maker.trade(*kind, Want::default()),
+            None => self.maker.cancellation(),
         };
-        (maker.case(&draft), Intent::Exactly(Vec::new()))
+        (self.maker.case(&draft), Intent::Exactly(Vec::new()))
     }
 }
 
 /// Makes another cell malformed and says what comes of it. Of a cancellation only three cells are looked at.
-fn add_form(maker: &mut Maker, draft: &mut Draft, but: &[usize], codes: Vec<u16>) -> Intent {
-    let cells: Vec<usize> = (2..=65).filter(|cell| !but.contains(cell)).collect();
+fn add_form(maker: &mut Maker, draft: &mut Draft, intent: Intent, reads: &[usize]) -> Intent {
+    let Intent::Exactly(mut codes) = intent else { unreachable!("what is met is known exactly") };
+    let has = |cell: usize| reads.contains(&cell) || codes.contains(&(1000 + cell as u16));
+    let cells: Vec<usize> = (2..=65).filter(|cell| !has(*cell)).collect();
     let cell = maker.rng.of(&cells);
     let value = malformed(&mut maker.rng, cell);
     draft.set(cell, value);
-    let mut codes = codes;
     if draft.get(1) == b"NEW" || [2, 4, 6].contains(&cell) {
         codes.push(1000 + cell as u16);
     }

@@ -1,4 +1,4 @@
-//! The reference: what document 01 says of one call.
+//! The reference: what the paper says of one call.
 //!
 //! `judge` takes a whole call, as it comes over the boundary. A service that judges many lines reads its lists
 //! and register once (`Lists::read`, `Register::open`) and calls `judge_line`.
@@ -13,9 +13,9 @@ mod rules;
 mod verdict;
 
 pub use calendar::{Day, Moment, MICROS};
-pub use forms::{isin, lei_check, Decimal, Price, Quantity};
+pub use forms::{Decimal, Price, Quantity};
 pub use lists::{Lists, VenueKinds};
-pub use register::{capacity, Pair, Register, Standing};
+pub use register::{Pair, Register, Standing};
 
 use report::{Cancellation, Report};
 use verdict::Verdict;
@@ -34,7 +34,7 @@ pub const LONGEST_LINE: usize = 4096;
 /// The cells of a line.
 pub const CELLS: usize = 65;
 
-/// Why a call is refused; the numbers are those of document 01, and the lowest that applies is given.
+/// Why a call is refused; the numbers are the paper's, and the lowest that applies is given.
 #[derive(Clone, Copy, Debug, PartialEq, Eq, PartialOrd, Ord)]
 #[repr(u16)]
 pub enum Refusal {
@@ -110,21 +110,36 @@ pub fn judge_line(
         return Refusal::LongLine.into();
     }
     let Some(cells) = split(line) else { return Refusal::Cells.into() };
+    match judge_cells(lists, register, moment, &cells) {
+        Ok(verdict) => {
+            for (entry, code) in findings.iter_mut().zip(verdict.codes()) {
+                *entry = code;
+            }
+            Outcome { answer: 0, count: verdict.count(), words: verdict.words() }
+        }
+        Err(refusal) => refusal.into(),
+    }
+}
 
+/// The codes found. Where there is none, the register takes the pair in.
+fn judge_cells(
+    lists: &Lists,
+    register: &mut Register,
+    moment: Moment,
+    cells: &[&[u8]; CELLS],
+) -> Result<Verdict, Refusal> {
     let mut verdict = Verdict::default();
     match cells[0] {
         b"NEW" => {
-            let report = Report::read(&cells, &mut verdict);
+            let report = Report::read(cells, &mut verdict);
             let pair = report.pair();
             rules::judge_new(&report, lists, moment, pair.map(|pair| register.standing(&pair)), &mut verdict);
             if let (Ok(pair), true) = (pair, verdict.is_clean()) {
-                if let Err(refusal) = register.set_live(&pair) {
-                    return refusal.into();
-                }
+                register.set_live(&pair)?;
             }
         }
         b"CXL" => {
-            let report = Cancellation::read(&cells, &mut verdict);
+            let report = Cancellation::read(cells, &mut verdict);
             let pair = report.pair();
             rules::judge_cancellation(&report, lists, moment, pair.map(|pair| register.standing(&pair)), &mut verdict);
             if let (Ok(pair), true) = (pair, verdict.is_clean()) {
@@ -133,11 +148,7 @@ pub fn judge_line(
         }
         _ => verdict.add(1001),
     }
-
-    for (entry, code) in findings.iter_mut().zip(verdict.codes()) {
-        *entry = code;
-    }
-    Outcome { answer: 0, count: verdict.count(), words: verdict.words() }
+    Ok(verdict)
 }
 
 /// The cells of a line, if there are exactly 65.

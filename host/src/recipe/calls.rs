@@ -1,10 +1,10 @@
 //! Whole calls: cell forms, refusals, sequences over one register, and calls at random.
 
 use crate::file::{Case, FILLER, LONGEST_LINE, LONGEST_REGISTER};
-use crate::reference::{Day, MICROS};
+use crate::reference::MICROS;
 
 use super::draft::{timestamp, Draft, Maker, Want};
-use super::rng::CODE;
+use super::rng::{Rng, CODE};
 use super::values::{malformed, nudged, scheme, well_formed, well_shaped, NEEDED};
 use super::world::ANY_STATUS;
 use super::Intent;
@@ -19,22 +19,25 @@ const TEXTS: [(usize, usize); 9] =
 /// The widths of the rows of the lists.
 const WIDTHS: [usize; 5] = [30, 10, 12, 13, 26];
 
+const UNREAL_DAYS: [u32; 18] = [
+    0, 18991231, 19000229, 20230229, 21000229, 20250431, 20250100, 20250132, 20250001, 20251301, 20251232, 100000101,
+    99999999, 4294967295, 20250230, 20240230, 2025032, 202503220,
+];
+
+/// A pair of a sequence.
+struct Tracked {
+    entity: [u8; 20],
+    reference: Vec<u8>,
+    /// What its last accepted line made of it.
+    live: Option<bool>,
+}
+
 impl Maker {
     /// A cell malformed, or well formed at the edge of its form.
     pub fn form(&mut self, cell: usize, hit: bool) -> (Draft, Intent) {
+        let cancelled = [2, 4, 6].contains(&cell) && self.rng.one_in(4);
+        let mut draft = if cancelled { self.cancellation() } else { self.clean(Want::default()) };
         let code = 1000 + cell as u16;
-        if [2, 4, 6].contains(&cell) && self.rng.one_in(4) {
-            let mut draft = self.cancellation();
-            let value = if hit { malformed(&mut self.rng, cell) } else { well_formed(&mut self.rng, cell) };
-            draft.set(cell, value);
-            let intent = match (hit, cell) {
-                (true, _) => Intent::Exactly(vec![code]),
-                (false, 6) => Intent::Without(code),
-                (false, _) => Intent::Exactly(Vec::new()),
-            };
-            return (draft, intent);
-        }
-        let mut draft = self.clean(Want::default());
         if hit {
             let value = malformed(&mut self.rng, cell);
             draft.set(cell, value);
@@ -47,21 +50,18 @@ impl Maker {
             }
             return (draft, Intent::Exactly(vec![code]));
         }
-        match cell {
-            1 => return (draft, Intent::Exactly(Vec::new())),
-            28 if draft.t < draft.s => {
+        let other_time = cell == 28 && draft.t < draft.s;
+        let value = match cell {
+            1 => draft.get(1).to_vec(),
+            28 if other_time => {
                 let time = self.rng.of(&[0, MICROS - 1, MICROS - 1_000_000, 500_000, 10_000_000]);
-                draft.set(28, timestamp(&mut self.rng, draft.t, time));
-                return (draft, Intent::Exactly(Vec::new()));
+                timestamp(&mut self.rng, draft.t, time).into_bytes()
             }
-            _ => {
-                let value = well_formed(&mut self.rng, cell);
-                draft.set(cell, value);
-            }
-        }
-        let intent =
-            if cell == 2 || UNREAD.contains(&cell) { Intent::Exactly(Vec::new()) } else { Intent::Without(code) };
-        (draft, intent)
+            _ => well_formed(&mut self.rng, cell),
+        };
+        draft.set(cell, value);
+        let harmless = cell <= 2 || UNREAD.contains(&cell) || other_time || (cancelled && cell == 4);
+        (draft, if harmless { Intent::Exactly(Vec::new()) } else { Intent::Without(code) })
     }
 
     /// A call that gets this refusal, or just does not.
@@ -80,45 +80,40 @@ impl Maker {
             self.damage(&mut case, number);
             return (case, Intent::Refused(number));
         }
-        let intent = match number {
+        match number {
             1..=5 => {
                 // An empty list is a list.
                 let list = number as usize - 1;
                 if self.rng.one_in(2) {
                     case.lists[list] = [&case.lists[list][..5], &[0; 4]].concat().into();
                 }
-                Intent::Judged
+                (case, Intent::Judged)
             }
-            6 => {
-                // All rows used; or no row at all.
-                if self.rng.one_in(2) {
-                    let rows = (case.register.len() - 9) / 74;
-                    case.register[5..9].copy_from_slice(&(rows as u32).to_le_bytes());
-                    if draft.get(1) == b"NEW" {
-                        // It may be full now.
-                        draft.set(65, "");
-                        case.line = draft.line();
-                    }
-                } else {
-                    draft.set(6, "");
-                    case.line = draft.line();
-                    case.register = [b"TRN", &1u16.to_le_bytes()[..], &[0; 4]].concat();
-                }
-                Intent::Judged
-            }
+            6 => self.odd_register(draft, case),
             7 => {
-                let day = self.rng.of(&[19000101, 20000229, 20240229, 20250430, 99991231, 19000228, case.day]);
-                case.day = day;
+                case.day = self.rng.of(&[19000101, 20000229, 20240229, 20250430, 99991231, 19000228, case.day]);
                 case.micro = self.rng.of(&[0, MICROS - 1]);
-                Intent::Judged
+                (case, Intent::Judged)
             }
             8 => {
                 case.findings = vec![FILLER; 137];
-                Intent::Exactly(Vec::new())
+                (case, Intent::Exactly(Vec::new()))
             }
-            _ => Intent::Exactly(Vec::new()),
-        };
-        (case, intent)
+            _ => (case, Intent::Exactly(Vec::new())),
+        }
+    }
+
+    /// All rows used; or no row at all. The line has a finding, since there may be no room for it.
+    fn odd_register(&mut self, mut draft: Draft, mut case: Case) -> (Case, Intent) {
+        if self.rng.one_in(2) {
+            let rows = (case.register.len() - 9) / 74;
+            case.register[5..9].copy_from_slice(&(rows as u32).to_le_bytes());
+        } else {
+            case.register = [b"TRN", &1u16.to_le_bytes()[..], &[0; 4]].concat();
+        }
+        draft.set(6, "");
+        case.line = draft.line();
+        (case, Intent::Judged)
     }
 
     /// A call with two or three things wrong: the lowest refusal is given.
@@ -146,72 +141,51 @@ impl Maker {
                 case.lists[list] = damaged.into();
             }
             6 => self.damage_register(&mut case.register),
-            7 => {
-                if self.rng.one_in(2) {
-                    let any = self.rng.next() as u32;
-                    let day = self.rng.of(&[
-                        0,
-                        18991231,
-                        19000229,
-                        20230229,
-                        21000229,
-                        20250431,
-                        20250100,
-                        20250132,
-                        20250001,
-                        20251301,
-                        20251232,
-                        100000101,
-                        99999999,
-                        u32::MAX,
-                        any | 0x8000_0000,
-                        20250230,
-                        20240230,
-                        2025032,
-                        202503220,
-                    ]);
-                    case.day = day;
-                } else {
-                    case.micro = self.rng.of(&[
-                        MICROS,
-                        MICROS + 1,
-                        1 << 37,
-                        1 << 40,
-                        u64::MAX,
-                        (1 << 32) * 21,
-                        86_400_000_000_000,
-                    ]);
-                }
-            }
+            7 => self.damage_moment(case),
             8 => {
                 let entries = self.rng.of(&[0, 1, 64, 135, 136, 136, 136]);
                 case.findings = vec![FILLER; entries];
             }
-            9 => {
-                let length = self.rng.of(&[4097, 4098, LONGEST_LINE]);
-                if case.line.len() < length {
-                    // In the middle of a cell, at the start, or behind the last bar.
-                    let place = self.rng.of(&[0, case.line.len() / 2, case.line.len()]);
-                    let fill = self.rng.of(b"A| \0\xff");
-                    case.line.splice(place..place, vec![fill; length - case.line.len()]);
-                }
+            9 => self.overfill(&mut case.line),
+            _ => self.miscount(&mut case.line),
+        }
+    }
+
+    fn damage_moment(&mut self, case: &mut Case) {
+        if self.rng.one_in(2) {
+            let large = self.rng.next() as u32 | 0x8000_0000;
+            case.day = if self.rng.one_in(10) { large } else { self.rng.of(&UNREAL_DAYS) };
+        } else {
+            let far = self.rng.of(&[MICROS + 1, 1 << 37, 1 << 40, u64::MAX, (1 << 32) * 21, 86_400_000_000_000]);
+            case.micro = self.rng.of(&[MICROS, far]);
+        }
+    }
+
+    /// Makes a line too long: in the middle of a cell, at the start, or behind the last bar.
+    fn overfill(&mut self, line: &mut Vec<u8>) {
+        let length = self.rng.of(&[4097, 4098, LONGEST_LINE]);
+        if line.len() < length {
+            let place = self.rng.of(&[0, line.len() / 2, line.len()]);
+            let fill = self.rng.of(b"A| \0\xff");
+            line.splice(place..place, vec![fill; length - line.len()]);
+        }
+    }
+
+    /// Gives a line another number of cells than 65.
+    fn miscount(&mut self, line: &mut Vec<u8>) {
+        let bars: Vec<usize> = (0..line.len()).filter(|&i| line[i] == b'|').collect();
+        match self.rng.below(8) {
+            // One cell fewer: a bar taken out, the last cell taken off.
+            0 | 1 if !bars.is_empty() => {
+                line.remove(self.rng.of(&bars));
             }
-            _ => {
-                let bars: Vec<usize> = (0..case.line.len()).filter(|&i| case.line[i] == b'|').collect();
-                match self.rng.below(8) {
-                    // One cell fewer: a bar taken out, the last cell taken off.
-                    0 | 1 if !bars.is_empty() => {
-                        case.line.remove(self.rng.of(&bars));
-                    }
-                    2 if !bars.is_empty() => case.line.truncate(bars[bars.len() - 1]),
-                    // One more.
-                    3 => case.line.insert(0, b'|'),
-                    4 => case.line.push(b'|'),
-                    5 if !bars.is_empty() => case.line.insert(self.rng.of(&bars), b'|'),
-                    6 => case.line = self.rng.of(&[&b""[..], b"NEW", b"x", b"|", b"CXL|R1"]).to_vec(),
-                    _ => case.line = vec![b'|'; self.rng.of(&[62, 63, 65, 66, 128, 4096])],
-                }
-            }
+            2 if !bars.is_empty() => line.truncate(bars[bars.len() - 1]),
+            // One more.
+            3 => line.insert(0, b'|'),
+            4 => line.push(b'|'),
+            5 if !bars.is_empty() => line.insert(self.rng.of(&bars), b'|'),
+            6 => *line = self.rng.of(&[&b""[..], b"NEW", b"x", b"|", b"CXL|R1"]).to_vec(),
+            _ => *line = vec![b'|'; self.rng.of(&[62, 63, 65, 66, 128, 4096])],
         }
     }
 
@@ -347,64 +321,68 @@ impl Maker {
         register.resize(9 + 74 * rows + tail, fill);
         assert!(register.len() <= LONGEST_REGISTER);
 
-        // Pairs that differ in entity or reference only, and what came of each so far.
-        let (t, s) = (self.world.t, self.world.s);
+        let mut pairs = self.like_pairs();
+        let mut calls = Vec::new();
+        for _ in 0..self.rng.between(6, 16) {
+            let full = pairs.iter().filter(|pair| pair.live.is_some()).count() == rows;
+            let which = self.rng.below(pairs.len());
+            let (draft, intent) = self.step(&mut pairs[which], full);
+            let mut case = self.case(&draft);
+            case.register = register;
+            register = case.judge().register;
+            calls.push((case, intent));
+        }
+        calls
+    }
+
+    /// Pairs that differ in entity or reference only.
+    fn like_pairs(&mut self) -> Vec<Tracked> {
+        let t = self.world.t;
         let entities = [self.good_lei(t, &[1]), self.good_lei(t, &[1])];
         let length = self.rng.of(&[1, 5, 51]);
         let reference = self.rng.text(CODE, length);
         let longer = [&reference[..], b"0"].concat();
-        let mut pairs: Vec<([u8; 20], Vec<u8>, Option<bool>)> = Vec::new();
-        for entity in entities {
-            for reference in [&reference, &longer] {
-                if !pairs.iter().any(|pair| pair.0 == entity && pair.1 == *reference) {
-                    pairs.push((entity, reference.clone(), None));
-                }
-            }
-        }
+        let entities = if entities[0] == entities[1] { &entities[1..] } else { &entities };
+        let pair = |&entity| {
+            [&reference, &longer].map(|reference| Tracked { entity, reference: reference.clone(), live: None })
+        };
+        entities.iter().flat_map(pair).collect()
+    }
 
-        let mut used = 0;
-        let mut calls = Vec::new();
-        for _ in 0..self.rng.between(6, 16) {
-            let which = self.rng.below(pairs.len());
-            let (entity, reference, state) = pairs[which].clone();
-            let new = !self.rng.one_in(3);
-            let submitter = self.good_lei(s, ANY_STATUS);
-            let mut draft = if new {
-                let (entity, submitter) = (Some(entity), Some(submitter));
-                self.clean(Want { t: Some(t), entity, submitter, firm: Some(true), ..Want::default() })
-            } else {
-                let mut draft = self.cancellation();
-                draft.set(4, entity);
-                draft.set(6, submitter);
-                draft
-            };
-            draft.set(2, &reference);
-            let spoilt = self.rng.one_in(6);
-            if spoilt {
-                // A rejected line leaves no trace.
-                let value = malformed(&mut self.rng, 6);
-                draft.set(6, value);
-            }
-            let mut found = match (new, state) {
-                (true, Some(true)) => vec![23],
-                (false, None) => vec![24],
-                (false, Some(false)) => vec![25],
-                _ => Vec::new(),
-            };
-            if spoilt {
-                found.push(1006);
-            }
-            let refused = new && found.is_empty() && state.is_none() && used == rows;
-            if found.is_empty() && !refused {
-                used += usize::from(state.is_none());
-                pairs[which].2 = Some(new);
-            }
-            let mut case = self.case(&draft);
-            case.register = register;
-            register = case.judge().register;
-            calls.push((case, if refused { Intent::Refused(11) } else { Intent::Exactly(found) }));
+    /// A line for a pair, new or a cancellation, and what it comes to with the register as it stands.
+    fn step(&mut self, pair: &mut Tracked, full: bool) -> (Draft, Intent) {
+        let (t, s) = (self.world.t, self.world.s);
+        let new = !self.rng.one_in(3);
+        let submitter = self.good_lei(s, ANY_STATUS);
+        let mut draft = if new {
+            let (entity, submitter) = (Some(pair.entity), Some(submitter));
+            self.clean(Want { t: Some(t), entity, submitter, firm: Some(true), ..Want::default() })
+        } else {
+            let mut draft = self.cancellation();
+            draft.set(4, pair.entity);
+            draft.set(6, submitter);
+            draft
+        };
+        draft.set(2, &pair.reference);
+        let mut found = match (new, pair.live) {
+            (true, Some(true)) => vec![23],
+            (false, None) => vec![24],
+            (false, Some(false)) => vec![25],
+            _ => Vec::new(),
+        };
+        if self.rng.one_in(6) {
+            // A rejected line leaves no trace.
+            let value = malformed(&mut self.rng, 6);
+            draft.set(6, value);
+            found.push(1006);
         }
-        calls
+        if found.is_empty() && pair.live.is_none() && full {
+            return (draft, Intent::Refused(11));
+        }
+        if found.is_empty() {
+            pair.live = Some(new);
+        }
+        (draft, Intent::Exactly(found))
     }
 
     /// Several cells changed at once, well formed or not.
@@ -529,33 +507,30 @@ impl Maker {
                     case.register[place] = rng.of(&[0, 1, 2, b'A', b'0', 0xff]);
                 }
             }
-            2 if !case.line.is_empty() => {
+            2 => {
                 for _ in 0..rng.between(1, 4) {
-                    let place = rng.below(case.line.len());
-                    match rng.below(3) {
-                        0 => case.line[place] = rng.of(b"0A:|\0\xff .-#"),
-                        1 => case.line.insert(place, rng.of(b"0A:|\0\xff .-#")),
-                        _ => {
-                            case.line.remove(place);
-                            if case.line.is_empty() {
-                                return;
-                            }
-                        }
-                    }
+                    disturb_line(rng, &mut case.line);
                 }
                 case.line.truncate(LONGEST_LINE);
             }
             3 => {
-                let day =
-                    Day::new(rng.of(&[20180103, 20180102, 20230103, 20250322, 19991231, 20400101])).expect("real");
-                case.day = day.number();
+                case.day = rng.of(&[20180103, 20180102, 20230103, 20250322, 19991231, 20400101]);
                 case.micro = rng.next() % MICROS;
             }
-            4 => {
-                let entries = rng.between(130, 145);
-                case.findings = vec![FILLER; entries];
-            }
+            4 => case.findings = vec![FILLER; rng.between(130, 145)],
             _ => {}
+        }
+    }
+}
+
+/// Changes, adds or takes out a byte.
+fn disturb_line(rng: &mut Rng, line: &mut Vec<u8>) {
+    let place = rng.below(line.len());
+    match rng.below(3) {
+        0 => line[place] = rng.of(b"0A:|\0\xff .-#"),
+        1 => line.insert(place, rng.of(b"0A:|\0\xff .-#")),
+        _ => {
+            line.remove(place);
         }
     }
 }

@@ -32,6 +32,24 @@ pub struct Needs {
     pub wanted_delivery: Option<&'static str>,
 }
 
+impl Needs {
+    /// The cell that a rule by classification looks at, with what is asked of it.
+    pub fn cell(&self, code: u16) -> (usize, Need) {
+        match code {
+            350 => (35, self.net_amount),
+            380 => (38, self.up_front),
+            480 | 481 => (48, self.index_name),
+            490 => (49, self.index_term),
+            500 | 501 => (50, self.option_type),
+            510 | 511 => (51, self.strike),
+            530 | 531 => (53, self.exercise),
+            540 | 542 => (54, self.maturity),
+            550 | 551 => (55, self.expiry),
+            _ => unreachable!("{code} asks for more than a cell filled or blank"),
+        }
+    }
+}
+
 fn must_if(condition: bool) -> Need {
     if condition {
         Must
@@ -41,24 +59,10 @@ fn must_if(condition: bool) -> Need {
 }
 
 pub fn needs([a, b, c, d, e, f]: [u8; 6]) -> Needs {
-    let option_like = a == b'O' || a == b'H' || (a == b'R' && b == b'W');
-    let optionless = b"FSECDJ".contains(&a);
-    let option_need = if optionless { Never } else { must_if(option_like) };
-    let by_letter = |letter, call: &[u8], put: &[u8], other: &[u8]| {
-        if call.contains(&letter) {
-            Some("CALL")
-        } else if put.contains(&letter) {
-            Some("PUTO")
-        } else if other.contains(&letter) {
-            Some("OTHR")
-        } else {
-            None
-        }
-    };
-    let by_delivery = |letter, cash_too| match letter {
-        b'P' => Some("PHYS"),
-        b'C' if cash_too => Some("CASH"),
-        _ => None,
+    let option_need = match (a, b) {
+        (b'F' | b'S' | b'E' | b'C' | b'D' | b'J', _) => Never,
+        (b'O' | b'H', _) | (b'R', b'W') => Must,
+        _ => Free,
     };
     Needs {
         debt: a == b'D',
@@ -73,12 +77,7 @@ pub fn needs([a, b, c, d, e, f]: [u8; 6]) -> Needs {
         },
         index_term: must_if(matches!((a, b, c, d), (b'O', _, _, b'N') | (b'F', b'F', b'N', _))),
         option_type: option_need,
-        wanted_type: match (a, b) {
-            (b'O', _) => by_letter(b, b"C", b"P", b"M"),
-            (b'H', _) => by_letter(d, b"ABC", b"DEF", b"GHI"),
-            (b'R', b'W') => by_letter(e, b"C", b"P", b"B"),
-            _ => None,
-        },
+        wanted_type: wanted_type(a, b, d, e),
         strike: option_need,
         exercise: if a == b'R' && b == b'F' { Must } else { option_need },
         maturity: match a {
@@ -91,15 +90,32 @@ pub fn needs([a, b, c, d, e, f]: [u8; 6]) -> Needs {
             (b'E' | b'C' | b'D', _, _) => Never,
             _ => Free,
         },
-        wanted_delivery: match (a, b) {
-            (b'O', b'C' | b'P') | (b'F', b'F' | b'C') => by_delivery(e, true),
-            (b'S', b'R' | b'T' | b'E' | b'C' | b'M') => by_delivery(f, true),
-            (b'H', b'R' | b'T' | b'E' | b'C' | b'F' | b'M') => by_delivery(f, true),
-            (b'J', b'E' | b'F' | b'C' | b'R' | b'T') => by_delivery(f, true),
-            (b'L', b'L') => by_delivery(f, true),
-            (b'S' | b'I', b'F') => by_delivery(f, false),
-            _ => None,
-        },
+        wanted_delivery: wanted_delivery(a, b, e, f),
+    }
+}
+
+fn wanted_type(a: u8, b: u8, d: u8, e: u8) -> Option<&'static str> {
+    match (a, b, d, e) {
+        (b'O', b'C', _, _) | (b'H', _, b'A'..=b'C', _) | (b'R', b'W', _, b'C') => Some("CALL"),
+        (b'O', b'P', _, _) | (b'H', _, b'D'..=b'F', _) | (b'R', b'W', _, b'P') => Some("PUTO"),
+        (b'O', b'M', _, _) | (b'H', _, b'G'..=b'I', _) | (b'R', b'W', _, b'B') => Some("OTHR"),
+        _ => None,
+    }
+}
+
+fn wanted_delivery(a: u8, b: u8, e: u8, f: u8) -> Option<&'static str> {
+    let (letter, cash_too) = match (a, b) {
+        (b'O', b'C' | b'P') | (b'F', b'F' | b'C') => (e, true),
+        (b'S', b'R' | b'T' | b'E' | b'C' | b'M') => (f, true),
+        (b'H', b'R' | b'T' | b'E' | b'C' | b'F' | b'M') => (f, true),
+        (b'J', b'E' | b'F' | b'C' | b'R' | b'T') | (b'L', b'L') => (f, true),
+        (b'S' | b'I', b'F') => (f, false),
+        _ => return None,
+    };
+    match letter {
+        b'P' => Some("PHYS"),
+        b'C' if cash_too => Some("CASH"),
+        _ => None,
     }
 }
 
@@ -126,7 +142,7 @@ pub fn any_class(rng: &mut Rng) -> [u8; 6] {
     class
 }
 
-/// The patterns of a rule by classification, short ones unfilled, as document 01 has them.
+/// The patterns of a rule by classification, short ones unfilled, as the paper has them.
 pub fn patterns(code: u16) -> &'static [&'static str] {
     match code {
         330 | 540 => &["D"],

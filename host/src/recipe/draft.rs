@@ -4,7 +4,7 @@ use crate::file::{Case, FILLER, LONGEST_REGISTER};
 use crate::reference::{Day, MICROS};
 
 use super::classes::{any_class, needs, Need, Needs};
-use super::rng::{Rng, ALPHANUMERIC, CAPITALS, CODE, DIGITS};
+use super::rng::{Rng, ALPHANUMERIC, CAPITALS, CODE};
 use super::values;
 use super::world::{make_lei, Venue, World, ANY_STATUS, EARLY, LATE, NOT_LAPSED};
 
@@ -142,6 +142,16 @@ const NAMES: &[&str] =
 pub const PARTIES: [(usize, [usize; 2], usize); 4] =
     [(7, [9, 10], 11), (12, [13, 14], 15), (16, [18, 19], 20), (21, [22, 23], 24)];
 
+/// The 73 bytes of some pair.
+pub fn any_pair(rng: &mut Rng) -> [u8; 73] {
+    let mut pair = [0; 73];
+    pair[..20].copy_from_slice(&make_lei(rng));
+    let length = rng.between(1, 52);
+    pair[20] = length as u8;
+    pair[21..21 + length].copy_from_slice(&rng.text(CODE, length));
+    pair
+}
+
 /// Makes drafts within one world.
 pub struct Maker {
     pub rng: Rng,
@@ -186,16 +196,40 @@ impl Maker {
 
     /// A clean new line.
     pub fn clean(&mut self, want: Want) -> Draft {
+        let mut draft = self.begun(&want);
+        let (t, s) = (draft.t, draft.s);
+        let rng = &mut self.rng;
+        let capacity = want.capacity.unwrap_or_else(|| rng.of(&[&b"AOTC"[..], b"AOTC", b"MTCH", b"DEAL"]));
+        draft.set(29, capacity);
+        let firm = want.firm.unwrap_or_else(|| !rng.one_in(3));
+        draft.set(5, if firm { "TRUE" } else { "FALSE" });
+        let entity = want.entity.unwrap_or_else(|| self.good_lei(t, if firm { NOT_LAPSED } else { ANY_STATUS }));
+        draft.set(4, entity);
+        let submitter = want.submitter.unwrap_or_else(|| self.good_lei(s, ANY_STATUS));
+        draft.set(6, submitter);
+
+        let venue = self.set_venue(&mut draft, want.venue);
+        self.set_parties(&mut draft, &entity);
+        let transmitted = capacity == b"AOTC" && venue.off && self.rng.one_in(2);
+        draft.set(25, if transmitted { "TRUE" } else { "FALSE" });
+        self.set_decision(&mut draft);
+        self.set_instrument(&mut draft, &venue, want.instrument);
+        self.set_rest(&mut draft);
+        draft
+    }
+
+    /// Cells 1, 2 and 28, and when the line is submitted.
+    fn begun(&mut self, want: &Want) -> Draft {
         let s = want.s.unwrap_or(self.world.s);
+        let rng = &mut self.rng;
         let t = want.t.unwrap_or_else(|| {
-            if self.rng.one_in(5) {
+            if rng.one_in(5) {
                 let first = Day::new(20180103).expect("a real day").max(days_before(s, 1826));
-                day_between(&mut self.rng, first, s)
+                day_between(rng, first, s)
             } else {
                 self.world.t
             }
         });
-        let rng = &mut self.rng;
         let mut micro = want.micro.unwrap_or_else(|| {
             let any = rng.next() % MICROS;
             rng.of(&[0, 1, 43_200_000_000, MICROS - 1, any, any, any])
@@ -218,23 +252,6 @@ impl Maker {
         if rng.one_in(4) {
             draft.states = rng.of(&[&[2][..], &[0], &[2, 2], &[2, 1], &[255]]).to_vec();
         }
-
-        let capacity = want.capacity.unwrap_or_else(|| rng.of(&[&b"AOTC"[..], b"AOTC", b"MTCH", b"DEAL"]));
-        draft.set(29, capacity);
-        let firm = want.firm.unwrap_or_else(|| !rng.one_in(3));
-        draft.set(5, if firm { "TRUE" } else { "FALSE" });
-        let entity = want.entity.unwrap_or_else(|| self.good_lei(t, if firm { NOT_LAPSED } else { ANY_STATUS }));
-        draft.set(4, entity);
-        let submitter = want.submitter.unwrap_or_else(|| self.good_lei(s, ANY_STATUS));
-        draft.set(6, submitter);
-
-        let venue = self.set_venue(&mut draft, want.venue);
-        self.set_parties(&mut draft, &entity);
-        let transmitted = capacity == b"AOTC" && venue.off && self.rng.one_in(2);
-        draft.set(25, if transmitted { "TRUE" } else { "FALSE" });
-        self.set_decision(&mut draft);
-        self.set_instrument(&mut draft, &venue, want.instrument);
-        self.set_rest(&mut draft);
         draft
     }
 
@@ -468,10 +485,8 @@ impl Maker {
             }
         }
         if needs.swap {
-            draft.set(
-                47,
-                self.rng.of(&["SWAP:", "SWAP:+{0:DE0005557508};-{0:BG11FOKAAT18}", "SWAP: +{0: DE000A2DASD4}"]),
-            );
+            let swaps = ["SWAP:", "SWAP:+{0:DE0005557508};-{0:BG11FOKAAT18}", "SWAP: +{0: DE000A2DASD4}"];
+            draft.set(47, self.rng.of(&swaps));
         } else if self.rng.one_in(3) {
             draft.set(47, self.rng.of(&["OTHR:", "OTHR:{0: AT0000A1KVF2}", "SWAP:", "OTHR:~"]));
         }
@@ -481,6 +496,22 @@ impl Maker {
         if self.filled(needs.index_term) {
             draft.set(49, self.rng.of(&["{0: MNTH#3}", "+{0:DAYS#10};-{0:YEAR#1}", "~"]));
         }
+        self.set_option(draft, &needs);
+        for (cell, need) in [(54, needs.maturity), (55, needs.expiry)] {
+            if self.filled(need) {
+                let day = day_between(&mut self.rng, draft.t, latest());
+                draft.set(cell, date(day));
+            }
+        }
+        if let Some(delivery) = needs.wanted_delivery {
+            draft.set(56, delivery);
+        } else if self.rng.one_in(3) {
+            draft.set(56, self.rng.of(&["PHYS", "CASH", "OPTL"]));
+        }
+    }
+
+    /// Cells 50, 51 and 53.
+    fn set_option(&mut self, draft: &mut Draft, needs: &Needs) {
         if self.filled(needs.option_type) {
             let kind = needs.wanted_type.unwrap_or_else(|| self.rng.of(&["PUTO", "CALL", "OTHR"]));
             draft.set(50, kind);
@@ -492,17 +523,6 @@ impl Maker {
         }
         if self.filled(needs.exercise) {
             draft.set(53, self.rng.of(&["EURO", "AMER", "ASIA", "BERM", "OTHR"]));
-        }
-        for (cell, need) in [(54, needs.maturity), (55, needs.expiry)] {
-            if self.filled(need) {
-                let day = day_between(&mut self.rng, draft.t, latest());
-                draft.set(cell, date(day));
-            }
-        }
-        if let Some(delivery) = needs.wanted_delivery {
-            draft.set(56, delivery);
-        } else if self.rng.one_in(3) {
-            draft.set(56, self.rng.of(&["PHYS", "CASH", "OPTL"]));
         }
     }
 
@@ -603,27 +623,17 @@ impl Maker {
     /// Another pair, often nearly the same.
     fn other_pair(&mut self, pair: Option<&[u8; 73]>) -> [u8; 73] {
         let rng = &mut self.rng;
-        let mut other = [0; 73];
-        match pair {
-            Some(pair) if rng.one_in(2) => {
-                other = *pair;
-                let length = usize::from(pair[20]);
-                match rng.below(6) {
-                    // Another entity, another length, another last character, something after the end.
-                    0 => other[rng.below(20)] ^= 1,
-                    1 => other[20] = other[20].wrapping_add(1),
-                    2 => other[20] = other[20].wrapping_sub(1),
-                    3 if length > 0 => other[20 + length] ^= 1,
-                    4 if length < 52 => other[rng.between(21 + length, 72)] = rng.of(b"A\x01 0"),
-                    _ => other[72] ^= 0x40,
-                }
-            }
-            _ => {
-                other[..20].copy_from_slice(&make_lei(rng));
-                let length = rng.between(1, 52);
-                other[20] = length as u8;
-                other[21..21 + length].copy_from_slice(&rng.text(CODE, length));
-            }
+        let Some(pair) = pair.filter(|_| rng.one_in(2)) else { return any_pair(rng) };
+        let mut other = *pair;
+        let length = usize::from(pair[20]);
+        match rng.below(6) {
+            // Another entity, another length, another last character, something after the end.
+            0 => other[rng.below(20)] ^= 1,
+            1 => other[20] = other[20].wrapping_add(1),
+            2 => other[20] = other[20].wrapping_sub(1),
+            3 if length > 0 => other[20 + length] ^= 1,
+            4 if length < 52 => other[rng.between(21 + length, 72)] = rng.of(b"A\x01 0"),
+            _ => other[72] ^= 0x40,
         }
         other
     }
@@ -640,9 +650,5 @@ impl Maker {
             micro: draft.micro,
             findings: vec![FILLER; entries],
         }
-    }
-
-    pub fn digits(&mut self, length: usize) -> Vec<u8> {
-        self.rng.text(DIGITS, length)
     }
 }

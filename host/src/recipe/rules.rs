@@ -2,7 +2,7 @@
 
 use crate::reference::{Day, MICROS};
 
-use super::classes::{any_class, class_beside, class_of, needs, patterns, Need};
+use super::classes::{any_class, class_beside, class_of, needs, patterns, Need, Needs};
 use super::draft::{
     date, day_between, days_before, earliest, latest, Draft, Instrument, Maker, Want, NO_DEAL, PARTIES,
 };
@@ -10,65 +10,67 @@ use super::rng::{CAPITALS, CODE, DIGITS};
 use super::values::{badly_shaped, scheme, well_shaped};
 use super::world::{Venue, ANY_STATUS, NOT_LAPSED};
 
+/// The cells that each rule reads, beside cell 1.
+const READS: &[(&[u16], &[usize])] = &[
+    (&[23, 24, 25], &[2, 4]),
+    (&[30], &[3, 28, 36]),
+    (&[40, 41], &[4, 5, 28]),
+    (&[60], &[6]),
+    (&[70, 71, 72], &[7, 28]),
+    (&[73], &[7, 11]),
+    (&[74], &[7]),
+    (&[80], &[8, 28]),
+    (&[110], &[11, 28]),
+    (&[120, 121], &[12, 28]),
+    (&[122], &[12, 15]),
+    (&[123], &[12]),
+    (&[150], &[15, 28]),
+    (&[160, 161, 162], &[16, 28]),
+    (&[163], &[16, 20]),
+    (&[164], &[16]),
+    (&[170], &[17, 28]),
+    (&[200], &[20, 28]),
+    (&[210, 211], &[21, 28]),
+    (&[212], &[21, 24]),
+    (&[213], &[21]),
+    (&[240], &[24, 28]),
+    (&[251], &[25, 29]),
+    (&[260], &[26, 28]),
+    (&[270], &[27, 28]),
+    (&[280, 281], &[28]),
+    (&[290], &[4, 7, 16, 29]),
+    (&[310], &[28, 31]),
+    (&[330], &[30, 33, 43]),
+    (&[331], &[28, 30, 33, 41]),
+    (&[340], &[28, 34]),
+    (&[350], &[35, 43]),
+    (&[351], &[28, 35, 41]),
+    (&[360], &[28, 36]),
+    (&[361], &[28, 36, 41]),
+    (&[362], &[25, 36]),
+    (&[370, 372], &[28, 36, 37]),
+    (&[371], &[28, 37]),
+    (&[380], &[38, 43]),
+    (&[440], &[28, 44]),
+    (&[451], &[28, 45]),
+    (&[473], &[43, 47]),
+    (&[480, 481], &[43, 48]),
+    (&[490], &[43, 49]),
+    (&[500, 501, 502], &[43, 50]),
+    (&[510, 511], &[43, 51]),
+    (&[520], &[28, 52]),
+    (&[530, 531], &[43, 53]),
+    (&[540, 542], &[43, 54]),
+    (&[541], &[28, 54]),
+    (&[550, 551], &[43, 55]),
+    (&[552], &[28, 55]),
+    (&[560], &[43, 56]),
+    (&[570], &[26, 27, 29, 57]),
+];
+
 /// The cells that a rule reads, beside cell 1.
 pub fn reads(code: u16) -> &'static [usize] {
-    match code {
-        23..=25 => &[2, 4],
-        30 => &[3, 28, 36],
-        40 | 41 => &[4, 5, 28],
-        60 => &[6],
-        70..=72 => &[7, 28],
-        73 => &[7, 11],
-        74 => &[7],
-        80 => &[8, 28],
-        110 => &[11, 28],
-        120 | 121 => &[12, 28],
-        122 => &[12, 15],
-        123 => &[12],
-        150 => &[15, 28],
-        160..=162 => &[16, 28],
-        163 => &[16, 20],
-        164 => &[16],
-        170 => &[17, 28],
-        200 => &[20, 28],
-        210 | 211 => &[21, 28],
-        212 => &[21, 24],
-        213 => &[21],
-        240 => &[24, 28],
-        251 => &[25, 29],
-        260 => &[26, 28],
-        270 => &[27, 28],
-        280 | 281 => &[28],
-        290 => &[4, 7, 16, 29],
-        310 => &[28, 31],
-        330 => &[30, 33, 43],
-        331 => &[28, 30, 33, 41],
-        340 => &[28, 34],
-        350 => &[35, 43],
-        351 => &[28, 35, 41],
-        360 => &[28, 36],
-        361 => &[28, 36, 41],
-        362 => &[25, 36],
-        370 | 372 => &[28, 36, 37],
-        371 => &[28, 37],
-        380 => &[38, 43],
-        440 => &[28, 44],
-        451 => &[28, 45],
-        473 => &[43, 47],
-        480 | 481 => &[43, 48],
-        490 => &[43, 49],
-        500..=502 => &[43, 50],
-        510 | 511 => &[43, 51],
-        520 => &[28, 52],
-        530 | 531 => &[43, 53],
-        540 | 542 => &[43, 54],
-        541 => &[28, 54],
-        550 | 551 => &[43, 55],
-        552 => &[28, 55],
-        560 => &[43, 56],
-        570 => &[26, 27, 29, 57],
-        _ => unreachable!("no rule {code}"),
-    }
+    READS.iter().find(|(codes, _)| codes.contains(&code)).expect("a rule").1
 }
 
 /// The codes of the rules on the party in a cell: LEI, country, MIC, birth in CONCAT, shape, birth after T.
@@ -115,30 +117,19 @@ impl Maker {
             23..=25 => self.register_rule(code, hit),
             40 | 41 | 60 | 260 | 270 => self.entity_rule(code, hit),
             30 | 360 | 361 | 362 | 370 | 372 => self.venue_rule(code, hit),
-            80 | 170 | 371 => {
-                let cell = [8, 17, 37][[80, 170, 371].iter().position(|c| *c == code).expect("one of them")];
-                let venue: fn(&Venue) -> bool = if cell == 37 { Venue::wants_country } else { any_venue };
-                let mut draft = self.clean(Want { venue: Some(venue), ..Want::default() });
-                let country = self.country(draft.t, !hit);
-                draft.set(cell, country);
-                (draft, codes(code, hit))
-            }
-            251 | 290 | 570 => self.capacity_rule(code, hit),
-            280 | 281 => self.time_rule(code, hit),
-            310 | 340 | 440 | 451 | 520 => {
-                let mut draft = self.clean(Want::default());
-                let cell = match code {
-                    310 => 31,
-                    340 => 34,
-                    440 => 44,
-                    451 => 45,
-                    _ => 52,
-                };
-                let currency = self.currency(draft.t, !hit, code == 310);
-                let prefix = if cell == 45 { self.rng.of(&["FX:", "INTRST:"]) } else { "" };
-                draft.set(cell, [prefix.as_bytes(), &currency].concat());
-                (draft, codes(code, hit))
-            }
+            80 => self.country_rule(code, 8, hit),
+            170 => self.country_rule(code, 17, hit),
+            371 => self.country_rule(code, 37, hit),
+            251 => self.transmission_rule(hit),
+            290 => self.own_account_rule(hit),
+            570 => self.decision_rule(hit),
+            280 => self.moment_rule(hit),
+            281 => self.age_rule(hit),
+            310 => self.currency_rule(code, 31, hit),
+            340 => self.currency_rule(code, 34, hit),
+            440 => self.currency_rule(code, 44, hit),
+            451 => self.currency_rule(code, 45, hit),
+            520 => self.currency_rule(code, 52, hit),
             331 | 351 => self.list_rule(code, hit),
             541 | 552 => self.date_rule(code, hit),
             _ => {
@@ -146,6 +137,24 @@ impl Maker {
                 self.class_rule(code, pattern, hit)
             }
         }
+    }
+
+    /// Countries in cells of their own.
+    fn country_rule(&mut self, code: u16, cell: usize, hit: bool) -> (Draft, Vec<u16>) {
+        let venue: fn(&Venue) -> bool = if cell == 37 { Venue::wants_country } else { any_venue };
+        let mut draft = self.clean(Want { venue: Some(venue), ..Want::default() });
+        let country = self.country(draft.t, !hit);
+        draft.set(cell, country);
+        (draft, codes(code, hit))
+    }
+
+    /// Currencies.
+    fn currency_rule(&mut self, code: u16, cell: usize, hit: bool) -> (Draft, Vec<u16>) {
+        let mut draft = self.clean(Want::default());
+        let currency = self.currency(draft.t, !hit, code == 310);
+        let prefix = if cell == 45 { self.rng.of(&["FX:", "INTRST:"]) } else { "" };
+        draft.set(cell, [prefix.as_bytes(), &currency].concat());
+        (draft, codes(code, hit))
     }
 
     /// 023, 024, 025.
@@ -194,18 +203,22 @@ impl Maker {
     /// The rules on a party and its date of birth.
     fn party_rule(&mut self, cell: usize, birth_cell: usize, which: usize, hit: bool) -> (Draft, Vec<u16>) {
         let all = party_codes(cell);
-        let code = all[which];
         let mut draft = self.plain();
         let t = draft.t;
         self.set_party(&mut draft, cell);
+        if which == 5 {
+            return self.birth_rule(draft, cell, birth_cell, hit);
+        }
+        if which == 3 {
+            return self.concat_rule(draft, cell, birth_cell, hit);
+        }
+        draft.blank(birth_cell);
         match which {
             0 => {
-                draft.blank(birth_cell);
                 let lei = if hit { self.bad_lei(t, ANY_STATUS) } else { self.good_lei(t, ANY_STATUS) };
                 draft.set(cell, [b"LEI:", &lei[..]].concat());
             }
             1 => {
-                draft.blank(birth_cell);
                 let scheme = scheme(&mut self.rng);
                 let country = self.country(t, !hit);
                 if !hit && self.rng.one_in(3) {
@@ -218,86 +231,69 @@ impl Maker {
                 draft.set(cell, [scheme.as_bytes(), &identifier].concat());
             }
             2 => {
-                draft.blank(birth_cell);
-                let venue = self.venue(t, |venue| (venue.off || !venue.wants_country()) == hit).expect("such a venue");
+                let venue = self.odd_venue(t, |venue| (venue.off || !venue.wants_country()) == hit);
                 draft.set(cell, [b"MIC:", &venue.mic[..]].concat());
             }
-            3 => return self.concat_rule(draft, cell, birth_cell, hit),
-            4 => {
-                draft.blank(birth_cell);
-                let scheme = scheme(&mut self.rng);
-                let country = if self.rng.one_in(2) { self.rng.of(&[*b"FI", *b"LV"]) } else { self.country(t, true) };
-                let identifier = if hit {
-                    // The date in it does not matter then.
-                    if self.rng.one_in(2) {
-                        draft.set(birth_cell, date(earliest()));
-                    }
-                    badly_shaped(&mut self.rng, scheme, &country)
-                } else {
-                    well_shaped(&mut self.rng, scheme, &country)
-                };
-                draft.set(cell, [scheme.as_bytes(), &identifier].concat());
-            }
-            _ => {
-                let birth = if !hit {
-                    t
-                } else if self.rng.one_in(2) {
-                    t.next().unwrap_or(t)
-                } else {
-                    day_between(&mut self.rng, t, latest())
-                };
-                if draft.get(cell).starts_with(b"CONCAT:") {
-                    let mut value = draft.get(cell).to_vec();
-                    value[9..17].copy_from_slice(birth.number().to_string().as_bytes());
-                    draft.set(cell, value);
-                }
-                // A decision maker's date may stand alone.
-                if (cell == 12 || cell == 21) && self.rng.one_in(3) {
-                    draft.blank(cell);
-                }
-                draft.set(birth_cell, date(birth));
-                return (draft, codes(code, birth > t));
-            }
+            _ => self.set_shape(&mut draft, cell, birth_cell, hit),
         }
-        (draft, codes(code, hit))
+        (draft, codes(all[which], hit))
+    }
+
+    /// A person of the wrong shape, or of the right one.
+    fn set_shape(&mut self, draft: &mut Draft, cell: usize, birth_cell: usize, wrong: bool) {
+        let scheme = scheme(&mut self.rng);
+        let country = if self.rng.one_in(2) { self.rng.of(&[*b"FI", *b"LV"]) } else { self.country(draft.t, true) };
+        let identifier = if wrong {
+            // The date in it does not matter then.
+            if self.rng.one_in(2) {
+                draft.set(birth_cell, date(earliest()));
+            }
+            badly_shaped(&mut self.rng, scheme, &country)
+        } else {
+            well_shaped(&mut self.rng, scheme, &country)
+        };
+        draft.set(cell, [scheme.as_bytes(), &identifier].concat());
+    }
+
+    /// 110 and its like.
+    fn birth_rule(&mut self, mut draft: Draft, cell: usize, birth_cell: usize, hit: bool) -> (Draft, Vec<u16>) {
+        let t = draft.t;
+        let next = t.next().unwrap_or(t);
+        let birth = match (hit, self.rng.one_in(2)) {
+            (false, _) => t,
+            (true, true) => next,
+            (true, false) => day_between(&mut self.rng, next, latest()),
+        };
+        if draft.get(cell).starts_with(b"CONCAT:") {
+            let mut value = draft.get(cell).to_vec();
+            value[9..17].copy_from_slice(birth.number().to_string().as_bytes());
+            draft.set(cell, value);
+        }
+        // A decision maker's date may stand alone.
+        if (cell == 12 || cell == 21) && self.rng.one_in(3) {
+            draft.blank(cell);
+        }
+        draft.set(birth_cell, date(birth));
+        (draft, codes(party_codes(cell)[5], birth > t))
     }
 
     /// 073 and its like.
     fn concat_rule(&mut self, mut draft: Draft, cell: usize, birth_cell: usize, hit: bool) -> (Draft, Vec<u16>) {
         let all = party_codes(cell);
-        let t = draft.t;
-        let country = self.country(t, true);
-        let birth = day_between(&mut self.rng, earliest().next().expect("a next day"), t);
+        let country = self.country(draft.t, true);
+        let birth = day_between(&mut self.rng, earliest().next().expect("a next day"), draft.t);
         let mut identifier = well_shaped(&mut self.rng, "CONCAT:", &country);
         identifier[2..10].copy_from_slice(birth.number().to_string().as_bytes());
         draft.set(birth_cell, date(birth));
-        let mut found = Vec::new();
+        let mut found = codes(all[3], hit);
         if hit {
-            found.push(all[3]);
-            match self.rng.below(4) {
-                // Another day in the cell, another in the identifier, no real day in the identifier.
-                0 => draft.set(birth_cell, date(birth.previous().expect("not the first day"))),
-                1 => {
-                    let place = self.rng.between(2, 9);
-                    identifier[place] = b'0' + (identifier[place] - b'0' + self.rng.between(1, 9) as u8) % 10;
-                }
-                2 => identifier[2..10].copy_from_slice(self.rng.of(&[
-                    b"00000000",
-                    b"20230229",
-                    b"19991301",
-                    b"99999999",
-                ])),
-                _ => identifier[2..10].reverse(),
-            }
-            if identifier[2..10] == *date(birth).replace('-', "").as_bytes() {
-                draft.set(birth_cell, date(birth.previous().expect("not the first day")));
-            }
+            self.part_births(&mut draft, &mut identifier, birth_cell, birth);
         } else {
             match self.rng.below(4) {
                 // No date, another scheme, a wrong shape: then the date is not compared.
                 0 => {
                     draft.blank(birth_cell);
-                    identifier[2..10].copy_from_slice(&self.digits(8));
+                    identifier[2..10].copy_from_slice(&self.rng.array::<8>(DIGITS));
                 }
                 1 => {
                     let other = [&country[..], &self.rng.text(DIGITS, 8), &self.rng.text(CAPITALS, 10)].concat();
@@ -316,163 +312,205 @@ impl Maker {
         (draft, found)
     }
 
+    /// Another day in the cell, another in the identifier, no real day in the identifier.
+    fn part_births(&mut self, draft: &mut Draft, identifier: &mut [u8], birth_cell: usize, birth: Day) {
+        match self.rng.below(4) {
+            0 => draft.set(birth_cell, date(birth.previous().expect("not the first day"))),
+            1 => {
+                let place = self.rng.between(2, 9);
+                identifier[place] = b'0' + (identifier[place] - b'0' + self.rng.between(1, 9) as u8) % 10;
+            }
+            2 => {
+                let unreal = self.rng.of(&[b"00000000", b"20230229", b"19991301", b"99999999"]);
+                identifier[2..10].copy_from_slice(unreal);
+            }
+            _ => identifier[2..10].reverse(),
+        }
+        if identifier[2..10] == *birth.number().to_string().as_bytes() {
+            draft.set(birth_cell, date(birth.previous().expect("not the first day")));
+        }
+    }
+
     /// The rules on cell 36 and what goes with it.
     fn venue_rule(&mut self, code: u16, hit: bool) -> (Draft, Vec<u16>) {
-        let t = self.world.t;
-        let want = |venue: fn(&Venue) -> bool| Want { t: Some(t), venue: Some(venue), ..Want::default() };
-        match code {
+        let draft = match code {
             30 => {
-                let mut draft = self.clean(want(if hit { Venue::bars_code } else { |venue| !venue.bars_code() }));
+                let mut draft = self.at(if hit { Venue::bars_code } else { |venue| !venue.bars_code() });
                 let code_given = self.rng.text(CODE, 10);
                 draft.set(3, code_given);
-                (draft, codes(code, hit))
+                draft
             }
             360 => {
-                let mut draft = self.clean(want(any_venue));
+                let mut draft = self.at(any_venue);
                 if hit {
-                    let venue = self.venue(t, |venue| !venue.known()).expect("an unknown venue");
+                    let venue = self.venue(draft.t, |venue| !venue.known()).expect("an unknown venue");
                     draft.set(36, venue.mic);
                     draft.set(25, "FALSE");
                     draft.set(3, "ABC");
                 }
-                (draft, codes(code, hit))
+                draft
             }
-            361 => {
-                // Off any venue under XXXX; the instrument is in the list on T, or under XOFF, or on another day.
-                let xoff = self.world.venue(*b"XOFF", t).usable() && !hit && self.rng.one_in(2);
-                let listed = hit || xoff;
-                let venue: fn(&Venue) -> bool = if xoff { |venue| venue.mic == *b"XOFF" } else { is_xxxx };
-                let mut draft = self.clean(want(venue));
-                let isin = self.isin_where(|world, isin| world.instrument_listed(isin, t) == listed);
-                draft.set(41, isin);
-                self.suit_listed(&mut draft, &isin);
-                (draft, codes(code, hit))
-            }
+            361 => self.at_xxxx(hit),
             362 => {
-                let mut want = want(if hit { not_off } else { is_off });
-                want.capacity = Some(b"AOTC");
-                let mut draft = self.clean(want);
+                let venue = Some(if hit { not_off } else { is_off });
+                let t = Some(self.world.t);
+                let mut draft = self.clean(Want { t, venue, capacity: Some(b"AOTC"), ..Want::default() });
                 draft.set(25, "TRUE");
-                (draft, codes(code, hit))
+                draft
             }
-            370 => {
-                // Kind 1 or 3 wants a country, whatever else the venue is.
-                let mut draft = self.clean(want(any_venue));
-                let venue = self.venue(t, |venue| venue.known() && venue.wants_country() == hit).expect("a venue");
-                self.change_venue(&mut draft, &venue);
-                draft.blank(37);
-                (draft, codes(code, hit))
-            }
+            // Kind 1 or 3 wants a country, whatever else the venue is.
+            370 => self.moved_to(|venue| venue.known() && venue.wants_country() == hit),
             _ => {
-                let mut draft = self.clean(want(any_venue));
-                let venue = self.venue(t, |venue| venue.known() && venue.bars_country() == hit).expect("a venue");
-                self.change_venue(&mut draft, &venue);
-                let country = self.country(t, true);
+                let mut draft = self.moved_to(|venue| venue.known() && venue.bars_country() == hit);
+                let country = self.country(draft.t, true);
                 draft.set(37, country);
-                (draft, codes(code, hit))
+                draft
             }
-        }
+        };
+        (draft, codes(code, hit))
     }
 
-    /// Puts another venue into a line, with nothing beside cell 37 against it.
-    fn change_venue(&mut self, draft: &mut Draft, venue: &Venue) {
+    /// A clean line of the world's trading day at such a venue.
+    fn at(&mut self, venue: fn(&Venue) -> bool) -> Draft {
+        self.clean(Want { t: Some(self.world.t), venue: Some(venue), ..Want::default() })
+    }
+
+    /// 361. Off any venue under XXXX; the instrument is in the list on T, or under XOFF, or on another day.
+    fn at_xxxx(&mut self, hit: bool) -> Draft {
+        let t = self.world.t;
+        let xoff = self.world.venue(*b"XOFF", t).usable() && !hit && self.rng.one_in(2);
+        let listed = hit || xoff;
+        let mut draft = self.at(if xoff { |venue| venue.mic == *b"XOFF" } else { is_xxxx });
+        let isin = self.isin_where(|world, isin| world.instrument_listed(isin, t) == listed);
+        draft.set(41, isin);
+        self.suit_listed(&mut draft, &isin);
+        draft
+    }
+
+    /// Such a venue, often one that wants and bars a country at once, as XOFF does where the list has it.
+    fn odd_venue(&mut self, day: Day, condition: impl Fn(&Venue) -> bool) -> Venue {
+        let odd = |venue: &Venue| condition(venue) && venue.wants_country() && venue.bars_country();
+        let found = match self.rng.below(3) {
+            0 => self.venue(day, odd),
+            1 => self.venue(day, |venue| venue.off && odd(venue)),
+            _ => None,
+        };
+        found.or_else(|| self.venue(day, condition)).expect("such a venue")
+    }
+
+    /// A line moved to such a venue, cell 37 blank and nothing else against it.
+    fn moved_to(&mut self, condition: impl Fn(&Venue) -> bool) -> Draft {
+        let mut draft = self.at(any_venue);
+        let venue = self.odd_venue(draft.t, condition);
         draft.set(36, venue.mic);
-        draft.blank(3);
         draft.set(25, "FALSE");
+        draft.blank(3);
+        draft.blank(37);
         if venue.mic == *b"XXXX" {
             let isin = self.unlisted(draft.t);
             draft.set(41, isin);
         }
+        draft
     }
 
-    /// 251, 290, 570.
-    fn capacity_rule(&mut self, code: u16, hit: bool) -> (Draft, Vec<u16>) {
-        let deal = Some(&b"DEAL"[..]);
-        match code {
-            251 => {
-                let capacity: &[u8] = match (hit, self.rng.one_in(2)) {
-                    (false, true) => b"AOTC",
-                    (_, true) => b"MTCH",
-                    (_, false) => b"DEAL",
-                };
-                let mut draft = self.clean(Want { capacity: Some(capacity), venue: Some(is_off), ..Want::default() });
-                draft.set(25, if hit || capacity == b"AOTC" { "TRUE" } else { "FALSE" });
-                (draft, codes(code, hit))
-            }
-            290 => {
-                if !hit && self.rng.one_in(3) {
-                    return (self.plain(), Vec::new());
+    /// 251.
+    fn transmission_rule(&mut self, hit: bool) -> (Draft, Vec<u16>) {
+        let capacity: &[u8] = match (hit, self.rng.one_in(2)) {
+            (false, true) => b"AOTC",
+            (_, true) => b"MTCH",
+            (_, false) => b"DEAL",
+        };
+        let mut draft = self.clean(Want { capacity: Some(capacity), venue: Some(is_off), ..Want::default() });
+        draft.set(25, if hit || capacity == b"AOTC" { "TRUE" } else { "FALSE" });
+        (draft, codes(251, hit))
+    }
+
+    /// 290.
+    fn own_account_rule(&mut self, hit: bool) -> (Draft, Vec<u16>) {
+        if !hit && self.rng.one_in(3) {
+            return (self.plain(), Vec::new());
+        }
+        let mut draft = self.clean(Want { capacity: Some(b"DEAL"), ..Want::default() });
+        if hit {
+            let own = [b"LEI:", draft.get(4)].concat();
+            for cell in [7, 16] {
+                while draft.get(cell) == own {
+                    self.set_party(&mut draft, cell);
                 }
-                let mut draft = self.clean(Want { capacity: deal, ..Want::default() });
-                if hit {
-                    let own = [b"LEI:", draft.get(4)].concat();
-                    for cell in [7, 16] {
-                        while draft.get(cell) == own {
-                            self.set_party(&mut draft, cell);
-                        }
-                    }
-                }
-                (draft, codes(code, hit))
-            }
-            _ => {
-                let capacity = if !hit && self.rng.one_in(3) { Some(self.rng.of(NO_DEAL)) } else { deal };
-                let mut draft = self.clean(Want { capacity, ..Want::default() });
-                for cell in [26, 27, 57] {
-                    draft.blank(cell);
-                }
-                if !hit && capacity == deal {
-                    let lei = self.good_lei(draft.t, ANY_STATUS);
-                    let decision = self.decision();
-                    match self.rng.below(3) {
-                        0 => draft.set(26, lei),
-                        1 => draft.set(27, lei),
-                        _ => draft.set(57, decision),
-                    }
-                }
-                (draft, codes(code, hit))
             }
         }
+        (draft, codes(290, hit))
     }
 
-    /// 280 and 281.
-    fn time_rule(&mut self, code: u16, hit: bool) -> (Draft, Vec<u16>) {
-        let day = |number| Day::new(number).expect("a real day");
+    /// 570.
+    fn decision_rule(&mut self, hit: bool) -> (Draft, Vec<u16>) {
+        let capacity = if !hit && self.rng.one_in(3) { self.rng.of(NO_DEAL) } else { b"DEAL" };
+        let mut draft = self.clean(Want { capacity: Some(capacity), ..Want::default() });
+        for cell in [26, 27, 57] {
+            draft.blank(cell);
+        }
+        if !hit && capacity == b"DEAL" {
+            let lei = self.good_lei(draft.t, ANY_STATUS);
+            let decision = self.decision();
+            match self.rng.below(3) {
+                0 => draft.set(26, lei),
+                1 => draft.set(27, lei),
+                _ => draft.set(57, decision),
+            }
+        }
+        (draft, codes(570, hit))
+    }
+
+    /// 280.
+    fn moment_rule(&mut self, hit: bool) -> (Draft, Vec<u16>) {
+        let s = self.world.s;
         let rng = &mut self.rng;
-        let want = if code == 280 {
-            let s = self.world.s;
-            let any = rng.next() % (MICROS - 1);
-            let micro = rng.of(&[any, any / 1_000_000 * 1_000_000, 1, MICROS - 2, 43_200_000_000]).max(1);
-            let (t, micro, time) = match (hit, s.next()) {
-                (true, Some(next)) if rng.one_in(3) => (next, micro, rng.of(&[0, any])),
-                (true, _) if rng.one_in(2) => (s, micro, micro),
-                (true, _) => (s, micro, rng.between(micro as usize, MICROS as usize - 1) as u64),
-                (false, _) if rng.one_in(2) => (s, micro + 1, micro),
-                (false, _) => (s, micro, micro - 1),
-            };
-            Want { s: Some(s), t: Some(t), micro: Some(micro), time: Some(time), ..Want::default() }
-        } else {
-            let first = day(20180103);
-            let (s, t) = match (hit, rng.below(3)) {
-                // Five years and a day before; the day before the first; long before.
-                (true, 0) => {
-                    let s = day_between(rng, day(20230105), day(20401231));
-                    (s, days_before(s, 1827))
-                }
-                (true, 1) => (day_between(rng, first, day(20230102)), day(20180102)),
-                (true, _) => {
-                    let s = day_between(rng, first, latest());
-                    let last = days_before(s, 1827).max(day(20180102));
-                    (s, day_between(rng, earliest(), last))
-                }
-                (false, 0) => (day_between(rng, day(20180104), day(20230103)), first),
-                (false, _) => {
-                    let s = day_between(rng, day(20230103), latest());
-                    (s, days_before(s, 1826))
-                }
-            };
-            Want { s: Some(s), t: Some(t), ..Want::default() }
+        let any = rng.next() % (MICROS - 1);
+        // Often such that a fraction has few digits or none.
+        let unit = rng.of(&[1, 1_000, 10_000, 100_000, 1_000_000]);
+        let edge = rng.of(&[1, MICROS - 2, 43_200_000_000]);
+        let micro = if rng.one_in(4) { edge } else { (any / unit * unit).max(1) };
+        let (t, micro, time) = match (hit, s.next()) {
+            (true, Some(next)) if rng.one_in(4) => (next, micro, rng.of(&[0, any])),
+            (true, _) => {
+                let later = rng.between(micro as usize, MICROS as usize - 1) as u64;
+                (s, micro, rng.of(&[micro, micro, (micro + unit).min(MICROS - 1), later]))
+            }
+            (false, _) if rng.one_in(2) => (s, micro + 1, micro),
+            (false, _) => (s, micro, micro - 1),
         };
-        (self.clean(want), codes(code, hit))
+        let want = Want { s: Some(s), t: Some(t), micro: Some(micro), time: Some(time), ..Want::default() };
+        (self.clean(want), codes(280, hit))
+    }
+
+    /// 281.
+    fn age_rule(&mut self, hit: bool) -> (Draft, Vec<u16>) {
+        let day = |number| Day::new(number).expect("a real day");
+        let first = day(20180103);
+        let rng = &mut self.rng;
+        // Five calendar years before these are 1,825, 1,826 or 1,827 days before.
+        let leap = day(rng.of(&[20240229, 21000301, 21020101, 22020101]));
+        let (s, t) = match (hit, rng.below(4)) {
+            (true, 3) => (leap, days_before(leap, 1827)),
+            (false, 3) => (leap, days_before(leap, 1826)),
+            // Five years and a day before; the day before the first; long before.
+            (true, 0) => {
+                let s = day_between(rng, day(20230104), day(20401231));
+                (s, days_before(s, 1827))
+            }
+            (true, 1) => (day_between(rng, first, day(20230102)), day(20180102)),
+            (true, _) => {
+                let s = day_between(rng, first, latest());
+                let last = days_before(s, 1827).max(day(20180102));
+                (s, day_between(rng, earliest(), last))
+            }
+            (false, 0) => (day_between(rng, day(20180104), day(20230103)), first),
+            (false, _) => {
+                let s = day_between(rng, day(20230103), latest());
+                (s, days_before(s, 1826))
+            }
+        };
+        (self.clean(Want { s: Some(s), t: Some(t), ..Want::default() }), codes(281, hit))
     }
 
     /// 331 and 351: by the list, cell 43 aside.
@@ -493,9 +531,7 @@ impl Maker {
             }
         }
         if code == 331 {
-            let (quantity, price) = (self.quantity(true), self.price(true));
-            draft.set(30, quantity);
-            draft.set(33, price);
+            self.set_units_at_percent(&mut draft);
         } else {
             draft.blank(35);
             // Not in units, so that 331 has nothing to say.
@@ -503,6 +539,12 @@ impl Maker {
             draft.set(30, quantity);
         }
         (draft, codes(code, hit))
+    }
+
+    fn set_units_at_percent(&mut self, draft: &mut Draft) {
+        let (quantity, price) = (self.quantity(true), self.price(true));
+        draft.set(30, quantity);
+        draft.set(33, price);
     }
 
     /// 541 and 552: dates before T, whatever the classification.
@@ -527,67 +569,67 @@ impl Maker {
     /// The rules by classification: a class of a pattern, or one beside it, and the cell as the rule does not
     /// want it.
     pub fn class_rule(&mut self, code: u16, pattern: &str, hit: bool) -> (Draft, Vec<u16>) {
+        let of = |class| Want { instrument: Some(Instrument::Class(class)), ..Want::default() };
         // Without a violation: often the class beside, sometimes the class itself and all as it should be.
         if !hit && self.rng.one_in(4) {
             let class = class_of(&mut self.rng, pattern);
-            return (self.clean(Want { instrument: Some(Instrument::Class(class)), ..Want::default() }), Vec::new());
+            return (self.clean(of(class)), Vec::new());
         }
         let class = if hit { class_of(&mut self.rng, pattern) } else { class_beside(&mut self.rng, pattern) };
-        let needs = needs(class);
-        let mut draft = self.clean(Want { instrument: Some(Instrument::Class(class)), ..Want::default() });
-        let later = date(day_between(&mut self.rng, draft.t, latest()));
+        let (needs, mut draft) = (needs(class), self.clean(of(class)));
         let found = match code {
             330 => {
-                let (quantity, price) = (self.quantity(true), self.price(true));
-                draft.set(30, quantity);
-                draft.set(33, price);
+                self.set_units_at_percent(&mut draft);
                 codes(330, needs.debt)
             }
-            350 => must(&mut draft, 35, needs.net_amount, code),
-            380 => must(&mut draft, 38, needs.up_front, code),
             473 => {
                 draft.set(47, self.rng.of(&["", "OTHR:", "OTHR:{0: AT0000A1KVF2}", "OTHR:SWAP:"]));
                 codes(473, needs.swap)
             }
-            480 => must(&mut draft, 48, needs.index_name, code),
-            481 => never(&mut draft, 48, needs.index_name, code, "DAX"),
-            490 => must(&mut draft, 49, needs.index_term, code),
-            500 => must(&mut draft, 50, needs.option_type, code),
-            501 => {
-                let kind = needs.wanted_type.unwrap_or_else(|| self.rng.of(&["PUTO", "CALL", "OTHR"]));
-                never(&mut draft, 50, needs.option_type, code, kind)
-            }
-            502 => {
-                let wanted = needs.wanted_type;
-                let kind = self.rng.of_those(&["PUTO", "CALL", "OTHR"], |kind| Some(*kind) != wanted).expect("another");
-                draft.set(50, kind);
-                match (needs.option_type, wanted) {
-                    (Need::Never, _) => vec![501],
-                    (_, Some(_)) => vec![502],
-                    (_, None) => Vec::new(),
-                }
-            }
-            510 => must(&mut draft, 51, needs.strike, code),
-            511 => {
-                let price = self.price(false);
-                never(&mut draft, 51, needs.strike, code, &price)
-            }
-            530 => must(&mut draft, 53, needs.exercise, code),
-            531 => never(&mut draft, 53, needs.exercise, code, "EURO"),
-            540 => must(&mut draft, 54, needs.maturity, code),
-            542 => never(&mut draft, 54, needs.maturity, code, &later),
-            550 => must(&mut draft, 55, needs.expiry, code),
-            551 => never(&mut draft, 55, needs.expiry, code, &later),
+            502 => self.set_other_type(&mut draft, &needs),
             560 => {
                 let wanted = needs.wanted_delivery.unwrap_or("");
                 let delivery = self.rng.of_those(&["", "PHYS", "CASH", "OPTL"], |d| *d != wanted).expect("another");
                 draft.set(56, delivery);
                 codes(560, !wanted.is_empty())
             }
-            _ => unreachable!("no rule {code}"),
+            481 | 501 | 511 | 531 | 542 | 551 => {
+                let (cell, need) = needs.cell(code);
+                let value = self.filling(cell, &needs, draft.t);
+                draft.set(cell, value);
+                codes(code, need == Need::Never)
+            }
+            _ => {
+                let (cell, need) = needs.cell(code);
+                draft.blank(cell);
+                codes(code, need == Need::Must)
+            }
         };
         assert!(!hit || found == [code], "{code}: {found:?}");
         (draft, found)
+    }
+
+    /// 502: another option type than the classification wants.
+    fn set_other_type(&mut self, draft: &mut Draft, needs: &Needs) -> Vec<u16> {
+        let wanted = needs.wanted_type;
+        let kind = self.rng.of_those(&["PUTO", "CALL", "OTHR"], |kind| Some(*kind) != wanted).expect("another");
+        draft.set(50, kind);
+        match (needs.option_type, wanted) {
+            (Need::Never, _) => vec![501],
+            (_, Some(_)) => vec![502],
+            (_, None) => Vec::new(),
+        }
+    }
+
+    /// Something for a cell that a classification may bar: a date of T or later, unless the cell holds another thing.
+    fn filling(&mut self, cell: usize, needs: &Needs, t: Day) -> String {
+        match cell {
+            48 => "DAX".to_string(),
+            50 => needs.wanted_type.unwrap_or_else(|| self.rng.of(&["PUTO", "CALL", "OTHR"])).to_string(),
+            51 => self.price(false),
+            53 => "EURO".to_string(),
+            _ => date(day_between(&mut self.rng, t, latest())),
+        }
     }
 }
 
@@ -598,16 +640,4 @@ fn codes(code: u16, hit: bool) -> Vec<u16> {
     } else {
         Vec::new()
     }
-}
-
-/// Blanks a cell; a finding where it must be filled.
-fn must(draft: &mut Draft, cell: usize, need: Need, code: u16) -> Vec<u16> {
-    draft.blank(cell);
-    codes(code, need == Need::Must)
-}
-
-/// Fills a cell; a finding where it must be blank.
-fn never(draft: &mut Draft, cell: usize, need: Need, code: u16, value: &str) -> Vec<u16> {
-    draft.set(cell, value);
-    codes(code, need == Need::Never)
 }

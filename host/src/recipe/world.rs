@@ -2,9 +2,10 @@
 //! good on every day, keys that become or cease to be good on T or S or the day beside, and keys that are never
 //! good. What is good is said here a second time, by plain scans over the rows.
 
-use crate::file::{List, LISTS, LONGEST_LIST};
+use crate::file::{List, LISTS, LONGEST_LIST, MARKS};
 use crate::reference::Day;
 
+use super::classes::any_class;
 use super::rng::{Rng, CAPITALS, CODE};
 
 pub const EARLY: u32 = 19000101;
@@ -17,12 +18,22 @@ pub const NOT_LAPSED: &[u8] = &[1, 3, 4];
 pub const SPECIAL: [[u8; 3]; 12] =
     [*b"XAG", *b"XAU", *b"XBA", *b"XBB", *b"XBC", *b"XBD", *b"XDR", *b"XEU", *b"XFU", *b"XPD", *b"XPT", *b"XXX"];
 
+/// First and last day.
+type Span = (u32, u32);
+
 pub struct LeiRow {
     key: [u8; 20],
     status: u8,
     entity: u8,
     registered: u32,
     updated: u32,
+}
+
+impl LeiRow {
+    fn bytes(&self) -> Vec<u8> {
+        let days = [self.registered.to_le_bytes(), self.updated.to_le_bytes()].concat();
+        [&self.key[..], &[self.status, self.entity], &days].concat()
+    }
 }
 
 /// A row of any other list: a key, what stands behind it, and its days.
@@ -130,6 +141,11 @@ pub fn make_isin(rng: &mut Rng) -> [u8; 12] {
     isin[..2].copy_from_slice(&rng.array::<2>(CAPITALS));
     let alphabet = if rng.one_in(2) { CODE } else { b"0123456789" };
     isin[2..11].copy_from_slice(&rng.array::<9>(alphabet));
+    with_check_digit(isin)
+}
+
+/// The same with the check digit that its first eleven characters, digits and capitals, ask for.
+pub fn with_check_digit(mut isin: [u8; 12]) -> [u8; 12] {
     let sum: u32 = spread(&isin[..11])
         .bytes()
         .rev()
@@ -139,6 +155,16 @@ pub fn make_isin(rng: &mut Rng) -> [u8; 12] {
         .sum();
     isin[11] = b'0' + ((10 - sum % 10) % 10) as u8;
     isin
+}
+
+/// A key that is none of these.
+fn key_beside<const LENGTH: usize>(rng: &mut Rng, alphabet: &[u8], known: &[[u8; LENGTH]]) -> [u8; LENGTH] {
+    loop {
+        let key = rng.array(alphabet);
+        if !known.contains(&key) {
+            return key;
+        }
+    }
 }
 
 /// The number after or before that of a day, real or not.
@@ -151,8 +177,35 @@ fn before(day: Day) -> u32 {
 }
 
 impl World {
+    /// A world of any days, its lists now and then as long as the file of cases allows.
     pub fn make(rng: &mut Rng) -> World {
         let (s, t) = days(rng);
+        let mut world = World::around(rng, s, t);
+        let filled = rng.one_in(8);
+        world.lists = world.framed(rng, |rng, _, rows| {
+            let width = rows[0].len();
+            while filled && 9 + (rows.len() + 2) * width <= LONGEST_LIST {
+                // A key that no cell holds.
+                rows.push([&b"-"[..], &rng.bytes(width - 1)].concat());
+            }
+        });
+        world
+    }
+
+    /// A world of these days, its lists filled up to so many rows. What follows of `rng` does not depend on how many.
+    pub fn padded(rng: &mut Rng, s: Day, t: Day, rows_wanted: usize) -> World {
+        let mut world = World::around(rng, s, t);
+        let mut framing = Rng::new(rng.next());
+        world.lists = world.framed(&mut framing, |rng, list, rows| {
+            while rows.len() < rows_wanted {
+                rows.push(world.row_beside(rng, list));
+            }
+        });
+        world
+    }
+
+    /// The rows of the lists, not framed yet.
+    fn around(rng: &mut Rng, s: Day, t: Day) -> World {
         let mut world = World {
             s,
             t,
@@ -174,25 +227,42 @@ impl World {
         world.add_currencies(rng);
         world.add_venues(rng);
         world.add_instruments(rng);
-        world.write(rng);
         world
     }
 
     /// Spans that hold T, the first of them always.
-    fn spans_with_t(&self) -> [(u32, u32); 5] {
+    fn spans_with_t(&self) -> [Span; 5] {
         let t = self.t.number();
         [(EARLY, LATE), (t, t), (EARLY, t), (t, LATE), (0, u32::MAX)]
     }
 
     /// Spans that do not hold T.
-    fn spans_without_t(&self) -> [(u32, u32); 5] {
+    fn spans_without_t(&self) -> [Span; 5] {
         [(EARLY, before(self.t)), (after(self.t), LATE), (after(self.t), before(self.t)), (LATE, EARLY), (0, 0)]
     }
 
     fn add_leis(&mut self, rng: &mut Rng) {
-        let (s, t) = (self.s, self.t);
         let any = rng.of(&[0, EARLY, LATE]);
-        let mut sets: Vec<Vec<(u8, u8, u32, u32)>> = vec![
+        let mut sets = self.lei_sets(rng, any);
+        rng.shuffle(&mut sets);
+        for set in sets {
+            let key = make_lei(rng);
+            self.add_lei(key, &set);
+        }
+        // Good rows, wrong check digits.
+        for _ in 0..2 {
+            let mut key = make_lei(rng);
+            let place = rng.between(18, 19);
+            key[place] = b'0' + (key[place] - b'0' + rng.between(1, 9) as u8) % 10;
+            self.wrong.push(key);
+            self.add_lei(key, &[(1, 1, EARLY, any)]);
+        }
+    }
+
+    /// The rows of each LEI: status, entity, registration, update, which may be any day where the entity is active.
+    fn lei_sets(&self, rng: &mut Rng, any: u32) -> Vec<Vec<(u8, u8, u32, u32)>> {
+        let (s, t) = (self.s, self.t);
+        vec![
             // Good on every day.
             vec![(1, 1, EARLY, any)],
             vec![(1, 1, 0, any)],
@@ -224,20 +294,7 @@ impl World {
             // Without a row.
             vec![],
             vec![],
-        ];
-        rng.shuffle(&mut sets);
-        for set in sets {
-            let key = make_lei(rng);
-            self.add_lei(key, &set);
-        }
-        // Good rows, wrong check digits.
-        for _ in 0..2 {
-            let mut key = make_lei(rng);
-            let place = rng.between(18, 19);
-            key[place] = b'0' + (key[place] - b'0' + rng.between(1, 9) as u8) % 10;
-            self.wrong.push(key);
-            self.add_lei(key, &[(1, 1, EARLY, any)]);
-        }
+        ]
     }
 
     fn add_lei(&mut self, key: [u8; 20], rows: &[(u8, u8, u32, u32)]) {
@@ -250,10 +307,7 @@ impl World {
     fn add_countries(&mut self, rng: &mut Rng) {
         self.countries = vec![*b"DE", *b"FI", *b"LV", *b"FR", *b"GB"];
         while self.countries.len() < 18 {
-            let key = rng.array(CAPITALS);
-            if !self.countries.contains(&key) {
-                self.countries.push(key);
-            }
+            self.countries.push(key_beside(rng, CAPITALS, &self.countries));
         }
         let mut add = |key: [u8; 2], (from, to)| self.cty_rows.push(Row { key, more: [], from, to });
         for key in &self.countries[..5] {
@@ -284,8 +338,8 @@ impl World {
     fn add_currencies(&mut self, rng: &mut Rng) {
         self.currencies = vec![*b"EUR", *b"USD", *b"GBP", *b"DEM", *b"FRF", *b"ITL"];
         while self.currencies.len() < 18 {
-            let key = rng.array(CAPITALS);
-            if !SPECIAL.contains(&key) && !self.currencies.contains(&key) {
+            let key = key_beside(rng, CAPITALS, &self.currencies);
+            if !SPECIAL.contains(&key) {
                 self.currencies.push(key);
             }
         }
@@ -319,15 +373,30 @@ impl World {
     fn add_venues(&mut self, rng: &mut Rng) {
         self.mics = vec![*b"XXXX", *b"XOFF", *b"XETR", *b"XNYS"];
         while self.mics.len() < 28 {
-            let key = rng.array(CODE);
-            if !self.mics.contains(&key) {
-                self.mics.push(key);
+            self.mics.push(key_beside(rng, CODE, &self.mics));
+        }
+        let sets = self.venue_sets(rng);
+        for (key, set) in self.mics[2..].iter().zip(sets) {
+            for (kind, (from, to)) in set {
+                self.ven_rows.push(Row { key: *key, more: [kind], from, to });
             }
         }
+        // The last keys have no row. Now and then the codes for off-venue trades have one: XXXX as an
+        // internaliser at most, so that lines with it can still be clean.
+        if rng.one_in(2) {
+            let (from, to) = self.spans_with_t()[rng.below(5)];
+            self.ven_rows.push(Row { key: *b"XOFF", more: [rng.of(&[1, 1, 2, 3, 3])], from, to });
+        }
+        if rng.one_in(6) {
+            self.ven_rows.push(Row { key: *b"XXXX", more: [2], from: EARLY, to: LATE });
+        }
+    }
+
+    /// The rows of each venue: kind and span.
+    fn venue_sets(&self, rng: &mut Rng) -> Vec<Vec<(u8, Span)>> {
         let with = self.spans_with_t();
         let without = self.spans_without_t();
-        let keys = self.mics.clone();
-        let rows: Vec<Vec<(u8, (u32, u32))>> = vec![
+        vec![
             vec![(1, with[0])],
             vec![(3, with[0])],
             vec![(2, with[0])],
@@ -348,27 +417,13 @@ impl World {
             vec![(1, without[0]), (3, with[3])],
             vec![(1, with[2]), (2, without[1])],
             vec![(3, with[2]), (4, with[0])],
-        ];
-        for (key, set) in keys[2..].iter().zip(rows) {
-            for (kind, (from, to)) in set {
-                self.ven_rows.push(Row { key: *key, more: [kind], from, to });
-            }
-        }
-        // The last keys have no row. Now and then the codes for off-venue trades have one: XXXX as an
-        // internaliser at most, so that lines with it can still be clean.
-        if rng.one_in(3) {
-            let (from, to) = with[rng.below(5)];
-            self.ven_rows.push(Row { key: *b"XOFF", more: [rng.between(1, 3) as u8], from, to });
-        }
-        if rng.one_in(6) {
-            self.ven_rows.push(Row { key: *b"XXXX", more: [2], from: EARLY, to: LATE });
-        }
+        ]
     }
 
     fn add_instruments(&mut self, rng: &mut Rng) {
         let with = self.spans_with_t();
         let without = self.spans_without_t();
-        let mut sets: Vec<Vec<([u8; 6], (u32, u32))>> = Vec::new();
+        let mut sets: Vec<Vec<([u8; 6], Span)>> = Vec::new();
         for cfi in [b"ESVUFR", b"EPNRFR", b"CIOGES", b"RWSTCA", b"OCASPS", b"FFSPSX", b"SRCCSP"] {
             sets.push(vec![(*cfi, with[rng.below(5)])]);
         }
@@ -383,6 +438,7 @@ impl World {
             sets.push(vec![(cfi, without[rng.below(5)])]);
         }
         sets.push(vec![(*b"ESVUFR", with[0]), (*b"DBFTFB", with[1])]);
+        sets.push(vec![(*b"DTFTFB", with[2]), (*b"EPNRFR", with[0]), (*b"RWSTCA", with[3])]);
         sets.push(vec![(*b"DBFTFB", without[0]), (*b"DEFTFB", with[1])]);
         sets.push(vec![(*b"ESVUFR", with[0]), (*b"DBFTFB", without[1])]);
         sets.push(vec![(*b"ESVUFR", without[0]), (*b"DTFTFB", without[1])]);
@@ -402,32 +458,43 @@ impl World {
         }
     }
 
-    /// Writes the rows in any order, a few of them twice, now and then among as many others as a list may have.
-    fn write(&mut self, rng: &mut Rng) {
-        let filled = rng.one_in(8);
-        let lei = self.lei_rows.iter().map(|row| {
-            let days = [row.registered.to_le_bytes(), row.updated.to_le_bytes()].concat();
-            [&row.key[..], &[row.status, row.entity], &days].concat()
-        });
+    /// The five lists: the rows in any order, a few of them twice, among those that `fill` adds.
+    fn framed(&self, rng: &mut Rng, fill: impl Fn(&mut Rng, usize, &mut Vec<Vec<u8>>)) -> [List; LISTS] {
         let rows: [Vec<Vec<u8>>; LISTS] = [
-            lei.collect(),
+            self.lei_rows.iter().map(LeiRow::bytes).collect(),
             self.cty_rows.iter().map(Row::bytes).collect(),
             self.ccy_rows.iter().map(Row::bytes).collect(),
             self.ven_rows.iter().map(Row::bytes).collect(),
             self.ins_rows.iter().map(Row::bytes).collect(),
         ];
-        for ((list, mark), mut rows) in self.lists.iter_mut().zip(["LEI", "CTY", "CCY", "VEN", "INS"]).zip(rows) {
+        let mut numbered = rows.into_iter().enumerate();
+        MARKS.map(|mark| {
+            let (list, mut rows) = numbered.next().expect("as many marks as lists");
             for _ in 0..rng.below(3) {
                 rows.push(rows[rng.below(rows.len())].clone());
             }
-            let width = rows[0].len();
-            while filled && 9 + (rows.len() + 2) * width <= LONGEST_LIST {
-                // A key that no cell holds.
-                rows.push([&b"-"[..], &rng.bytes(width - 1)].concat());
-            }
+            fill(rng, list, &mut rows);
             rng.shuffle(&mut rows);
             let count = (rows.len() as u32).to_le_bytes();
-            *list = [mark.as_bytes(), &1u16.to_le_bytes(), &count, &rows.concat()].concat().into();
+            [mark.as_bytes(), &1u16.to_le_bytes(), &count, &rows.concat()].concat().into()
+        })
+    }
+
+    /// A row as the list might have many, under a key that no line asks for.
+    fn row_beside(&self, rng: &mut Rng, list: usize) -> Vec<u8> {
+        let (from, to) = rng.of(&[(EARLY, LATE), (20180103, LATE), (EARLY, 20241231)]);
+        match list {
+            0 => {
+                let (status, registered) = (rng.of(ANY_STATUS), rng.of(&[20121015, 20180103]));
+                LeiRow { key: make_lei(rng), status, entity: 1, registered, updated: 20250101 }.bytes()
+            }
+            1 => Row { key: key_beside(rng, CAPITALS, &self.countries), more: [], from, to }.bytes(),
+            2 => Row { key: key_beside(rng, CAPITALS, &self.currencies), more: [1], from, to }.bytes(),
+            3 => {
+                let kind = rng.between(1, 3) as u8;
+                Row { key: key_beside(rng, CODE, &self.mics), more: [kind], from, to }.bytes()
+            }
+            _ => Row { key: make_isin(rng), more: any_class(rng), from, to }.bytes(),
         }
     }
 

@@ -8,7 +8,7 @@ pub struct Day(u32);
 pub const MICROS: u64 = 24 * 60 * 60 * 1_000_000;
 
 fn is_leap(year: u32) -> bool {
-    year % 4 == 0 && (year % 100 != 0 || year % 400 == 0)
+    year.is_multiple_of(4) && (!year.is_multiple_of(100) || year.is_multiple_of(400))
 }
 
 fn month_length(year: u32, month: u32) -> u32 {

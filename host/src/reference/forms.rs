@@ -217,7 +217,7 @@ pub struct Decimal {
     pub places: u32,
 }
 
-/// D(whole, fraction, longest) of document 01. No form allows more than 18 digits.
+/// D(whole, fraction, longest) of the paper. No form allows more than 18 digits.
 fn decimal(text: &[u8], whole: usize, fraction: usize, longest: usize) -> Option<Decimal> {
     let (before, after) = match text.iter().position(|&byte| byte == b'.') {
         None => (text, &text[text.len()..]),

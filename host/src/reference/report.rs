@@ -39,9 +39,44 @@ impl<'a> Reader<'_, 'a> {
         }
     }
 
-    /// For cells whose contents no rule reads.
+    /// Buyer or seller, with the date of birth.
+    fn trader(&mut self, cell: usize, birth_cell: usize) -> PartyCells<'a> {
+        let party = self.needed(cell, forms::trader).map(Some);
+        PartyCells { party, birth: self.optional(birth_cell, Day::read) }
+    }
+
+    /// A decision maker, with the date of birth.
+    fn decider(&mut self, cell: usize, birth_cell: usize) -> PartyCells<'a> {
+        let party = self.optional(cell, forms::decider);
+        PartyCells { party, birth: self.optional(birth_cell, Day::read) }
+    }
+
     fn check<T>(&mut self, cell: usize, form: impl FnOnce(&'a [u8]) -> Option<T>) {
         let _ = self.optional(cell, form);
+    }
+
+    /// The cells whose contents no rule reads.
+    fn check_the_rest(&mut self) {
+        for cell in [9, 10, 13, 14, 18, 19, 22, 23] {
+            self.check(cell, forms::text(140));
+        }
+        self.check(32, forms::one_of(&[b"INCR", b"DECR"]));
+        self.check(39, forms::capitals::<3>);
+        self.check(40, forms::component);
+        self.check(42, forms::text(350));
+        self.check(46, forms::multiplier);
+        self.check(58, forms::capitals::<2>);
+        let _ = self.needed(59, forms::executor);
+        self.check(60, forms::capitals::<2>);
+        self.check(61, forms::one_of(&[b"RFPT", b"NLIQ", b"OILQ", b"PRIC", b"SIZE", b"ILQD"]));
+        self.check(62, forms::one_of(&[b"SESH", b"SSEX", b"SELL", b"UNDI"]));
+        let words: &[&[u8]] = &[
+            b"BENC", b"ACTX", b"LRGS", b"ILQD", b"SIZE", b"CANC", b"AMND", b"SDIV", b"PRIC", b"DUPL", b"TNCP", b"TPAC",
+            b"XFPH",
+        ];
+        self.check(63, forms::one_of(words));
+        self.check(64, forms::truth);
+        let _ = self.needed(65, forms::truth);
     }
 }
 
@@ -139,53 +174,19 @@ impl<'a> Report<'a> {
     /// Reads every cell after the first and notes the malformed ones.
     pub fn read(cells: &[&'a [u8]; CELLS], verdict: &mut Verdict) -> Report<'a> {
         let mut reader = Reader { cells, verdict };
-        for cell in [9, 10, 13, 14, 18, 19, 22, 23] {
-            reader.check(cell, forms::text(140));
-        }
-        reader.check(32, forms::one_of(&[b"INCR", b"DECR"]));
-        reader.check(39, forms::capitals::<3>);
-        reader.check(40, forms::component);
-        reader.check(42, forms::text(350));
-        reader.check(46, forms::multiplier);
-        reader.check(58, forms::capitals::<2>);
-        let _ = reader.needed(59, forms::executor);
-        reader.check(60, forms::capitals::<2>);
-        reader.check(61, forms::one_of(&[b"RFPT", b"NLIQ", b"OILQ", b"PRIC", b"SIZE", b"ILQD"]));
-        reader.check(62, forms::one_of(&[b"SESH", b"SSEX", b"SELL", b"UNDI"]));
-        reader.check(
-            63,
-            forms::one_of(&[
-                b"BENC", b"ACTX", b"LRGS", b"ILQD", b"SIZE", b"CANC", b"AMND", b"SDIV", b"PRIC", b"DUPL", b"TNCP",
-                b"TPAC", b"XFPH",
-            ]),
-        );
-        reader.check(64, forms::truth);
-        let _ = reader.needed(65, forms::truth);
-
+        reader.check_the_rest();
         Report {
             reference: reader.needed(2, forms::reference),
             venue_reference: reader.optional(3, forms::reference),
             entity: reader.needed(4, forms::lei),
             investment_firm: reader.needed(5, forms::truth),
             submitter: reader.needed(6, forms::lei),
-            buyer: PartyCells {
-                party: reader.needed(7, forms::trader).map(Some),
-                birth: reader.optional(11, Day::read),
-            },
+            buyer: reader.trader(7, 11),
             buyer_branch: reader.optional(8, forms::capitals),
-            buyer_decider: PartyCells {
-                party: reader.optional(12, forms::decider),
-                birth: reader.optional(15, Day::read),
-            },
-            seller: PartyCells {
-                party: reader.needed(16, forms::trader).map(Some),
-                birth: reader.optional(20, Day::read),
-            },
+            buyer_decider: reader.decider(12, 15),
+            seller: reader.trader(16, 20),
             seller_branch: reader.optional(17, forms::capitals),
-            seller_decider: PartyCells {
-                party: reader.optional(21, forms::decider),
-                birth: reader.optional(24, Day::read),
-            },
+            seller_decider: reader.decider(21, 24),
             transmitted: reader.needed(25, forms::truth),
             buyer_transmitter: reader.optional(26, forms::lei),
             seller_transmitter: reader.optional(27, forms::lei),

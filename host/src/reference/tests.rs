@@ -1,8 +1,8 @@
-//! Whole calls, by hand: the examples of document 01 and what is easily got wrong.
+//! Whole calls, by hand: the paper's examples and what is easily got wrong.
 
 use super::*;
 
-/// The LEI of document 01's examples.
+/// The LEI of the paper's examples.
 const E: &str = "00000000000000000098";
 const F: &str = "00000000000000000195";
 const FILLER: u16 = 0xA5A5;
@@ -391,7 +391,7 @@ fn classifications() {
     assert_eq!(of("OCEIXN", &[]), [480, 500, 510, 530, 550]);
     assert_eq!(of("OCEICN", &[]), [480, 500, 510, 530, 550, 560]);
     assert_eq!(of("HTAXXP", &[(50, "CALL"), (51, "NOAP"), (53, "EURO")]), [560]);
-    // Not the P of HT..P. of document 000.
+    // The P of HT***P is the sixth letter, not the fifth.
     assert_eq!(of("HTAXPX", &[(50, "CALL"), (51, "NOAP"), (53, "EURO")]), []);
     assert_eq!(of("SFXXXC", &[(47, "SWAP:")]), []);
     assert_eq!(of("SFXXXP", &[(47, "OTHR:")]), [473, 560]);
