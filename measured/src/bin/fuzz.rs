@@ -1,0 +1,198 @@
+//! Calls the proved function with good, changed and random bytes, all of them against pages that nobody may touch.
+
+use std::io::Write;
+use std::process::ExitCode;
+use std::sync::atomic::{AtomicU64, Ordering};
+use std::time::{Duration, Instant};
+
+use host::codes::CODES;
+use host::file::{Answered, Case};
+use host::reference::Call;
+use measured::changes::Calls;
+use measured::guarded::{Against, Guarded};
+
+const USAGE: &str = "usage: fuzz SEED COUNT [SECONDS]
+Makes COUNT calls, the same for the same SEED, but ends after so many SECONDS (600).";
+
+/// More bytes than a call of ours ever has in one run of them.
+const ROOM: usize = 1 << 16;
+
+/// No call takes a second; after so many it hangs.
+const PATIENCE: u32 = 20;
+
+/// The call under way, and the seed, for a message where it does not come back.
+static CALL: AtomicU64 = AtomicU64::new(0);
+static SEED: AtomicU64 = AtomicU64::new(0);
+
+extern "C" {
+    fn signal(number: i32, handler: extern "C" fn(i32)) -> usize;
+    fn alarm(seconds: u32) -> u32;
+    fn _exit(status: i32) -> !;
+}
+
+/// SIGILL, SIGBUS, SIGFPE, SIGSEGV: a crash. SIGALRM: a hang.
+const ENDINGS: [i32; 5] = [4, 7, 8, 11, 14];
+
+extern "C" fn ended(number: i32) {
+    let mut text = [0; 100];
+    let mut rest = &mut text[..];
+    let (seed, call) = (SEED.load(Ordering::Relaxed), CALL.load(Ordering::Relaxed));
+    let what = if number == 14 { "did not end" } else { "crashed" };
+    let _ = writeln!(rest, "fuzz: call {call} of seed {seed} {what} (signal {number})");
+    let left = rest.len();
+    let _ = std::io::stderr().write_all(&text[..100 - left]);
+    unsafe { _exit(1) }
+}
+
+/// A place for each run of bytes of a call.
+struct Places {
+    read: [Guarded; 6],
+    register: Guarded,
+    findings: Guarded,
+}
+
+impl Places {
+    fn new() -> Places {
+        Places {
+            read: std::array::from_fn(|_| Guarded::new(ROOM)),
+            register: Guarded::new(ROOM),
+            findings: Guarded::new(ROOM),
+        }
+    }
+
+    /// Makes a call with all its bytes against the guards before or behind them.
+    fn judge(&mut self, case: &Case, against: Against) -> Answered {
+        let [line, lei, cty, ccy, ven, ins] = &mut self.read;
+        let register = self.register.lend(&case.register, against);
+        let findings = self.findings.lend_entries(&case.findings, against);
+        let outcome = measured::judge(Call {
+            line: line.show(&case.line, against),
+            lei: lei.show(&case.lists[0], against),
+            cty: cty.show(&case.lists[1], against),
+            ccy: ccy.show(&case.lists[2], against),
+            ven: ven.show(&case.lists[3], against),
+            ins: ins.show(&case.lists[4], against),
+            register: &mut *register,
+            day: case.day,
+            micro: case.micro,
+            findings: &mut *findings,
+        });
+        Answered { outcome, findings: findings.to_vec(), register: register.to_vec() }
+    }
+}
+
+/// What is promised of every answer, whatever the reference says. The first promise that is broken, in words.
+fn broken(case: &Case, answered: &Answered) -> Option<&'static str> {
+    let outcome = &answered.outcome;
+    let count = usize::from(outcome.count);
+    if outcome.answer != 0 {
+        let silent = count == 0 && outcome.words == [0; 3];
+        let same = answered.findings == case.findings && answered.register == case.register;
+        return (!silent || !same).then_some("a refusal that says or changes something");
+    }
+    let bit = |place: usize| outcome.words[place / 64] >> (place % 64) & 1 == 1;
+    let codes: Vec<u16> =
+        (0..192).filter(|place| bit(*place)).map(|place| CODES.get(place).copied().unwrap_or(0)).collect();
+    if codes.len() != count || answered.findings.get(..count) != Some(&codes[..]) {
+        return Some("words, count and findings that do not belong together");
+    }
+    if answered.findings[count..] != case.findings[count..] {
+        return Some("an entry changed behind the findings");
+    }
+    (count != 0 && answered.register != case.register).then_some("a register changed by a line with findings")
+}
+
+/// What came of all calls.
+struct Tally {
+    calls: u64,
+    answers: [u64; 12],
+    clean: u64,
+    codes: [u64; 137],
+}
+
+impl Tally {
+    fn add(&mut self, answered: &Answered) {
+        self.calls += 1;
+        self.answers[usize::from(answered.outcome.answer)] += 1;
+        self.clean += u64::from(answered.outcome.answer == 0 && answered.outcome.count == 0);
+        for code in answered.codes() {
+            self.codes[CODES.binary_search(code).expect("a known code")] += 1;
+        }
+    }
+
+    fn print(&self, seed: u64, time: Duration) {
+        println!("seed {seed}: {} calls, each made twice, in {:.0} s: no difference", self.calls, time.as_secs_f64());
+        let refused: Vec<String> = (1..12).map(|number| format!("{number}: {}", self.answers[number])).collect();
+        println!("judged: {}, of them without a finding: {}", self.answers[0], self.clean);
+        println!("refused, by number: {}", refused.join(", "));
+        let seen = self.codes.iter().filter(|times| **times > 0).count();
+        let (rarest, code) = self.codes.iter().zip(CODES).min().expect("there are codes");
+        println!("codes: {seen} of 137 seen; the rarest is {code:03}, seen {rarest} times");
+    }
+}
+
+/// Makes one call twice and holds it against the promises and the reference.
+fn check(places: &mut Places, case: &Case) -> Result<Answered, String> {
+    unsafe { alarm(PATIENCE) };
+    let answered = places.judge(case, Against::End);
+    let again = places.judge(case, Against::Start);
+    unsafe { alarm(0) };
+    if let Some(promise) = broken(case, &answered) {
+        return Err(format!("{promise}: {:?} {:?}", answered.outcome, answered.codes()));
+    }
+    if again != answered {
+        return Err(format!("the same call answered otherwise: {:?}, {:?}", answered.outcome, again.outcome));
+    }
+    let expected = case.judge();
+    if expected != answered {
+        let (ours, theirs) = (answered.codes(), expected.codes());
+        return Err(format!("{:?} {ours:?}, the reference says {:?} {theirs:?}", answered.outcome, expected.outcome));
+    }
+    Ok(answered)
+}
+
+/// A call for a message. The seed makes it again, so the lists and the register are not printed.
+fn in_words(case: &Case) -> String {
+    let Case { line, register, day, micro, findings, .. } = case;
+    let line = line.escape_ascii();
+    format!("day {day}, micro {micro}, register of {} bytes, {} entries\n{line}", register.len(), findings.len())
+}
+
+fn run(seed: u64, count: u64, seconds: u64) -> Result<(), String> {
+    SEED.store(seed, Ordering::Relaxed);
+    for number in ENDINGS {
+        unsafe { signal(number, ended) };
+    }
+    let start = Instant::now();
+    let mut calls = Calls::new(seed);
+    let mut places = Places::new();
+    let mut tally = Tally { calls: 0, answers: [0; 12], clean: 0, codes: [0; 137] };
+    while tally.calls < count && start.elapsed() < Duration::from_secs(seconds) {
+        CALL.store(tally.calls + 1, Ordering::Relaxed);
+        let case = calls.next_call();
+        let answered = check(&mut places, &case)
+            .map_err(|what| format!("call {} of seed {seed}: {what}\n{}", tally.calls + 1, in_words(&case)))?;
+        tally.add(&answered);
+    }
+    tally.print(seed, start.elapsed());
+    Ok(())
+}
+
+fn main() -> ExitCode {
+    let numbers: Option<Vec<u64>> = std::env::args().skip(1).map(|argument| argument.parse().ok()).collect();
+    let done = match numbers.as_deref() {
+        Some(&[seed, count]) => run(seed, count, 600),
+        Some(&[seed, count, seconds]) => run(seed, count, seconds),
+        _ => {
+            eprintln!("{USAGE}");
+            return ExitCode::from(2);
+        }
+    };
+    match done {
+        Ok(()) => ExitCode::SUCCESS,
+        Err(message) => {
+            eprintln!("fuzz: {message}");
+            ExitCode::from(1)
+        }
+    }
+}

@@ -1,0 +1,198 @@
+//! Calls to throw at the judge: good ones of the recipe, good ones changed here and there, and noise.
+
+use host::file::Case;
+use host::recipe::Recipe;
+
+/// A small generator of pseudo-random numbers (SplitMix64).
+struct Rng(u64);
+
+impl Rng {
+    fn new(seed: u64) -> Rng {
+        Rng(seed)
+    }
+
+    fn next(&mut self) -> u64 {
+        self.0 = self.0.wrapping_add(0x9E37_79B9_7F4A_7C15);
+        let mut z = self.0;
+        z = (z ^ (z >> 30)).wrapping_mul(0xBF58_476D_1CE4_E5B9);
+        z = (z ^ (z >> 27)).wrapping_mul(0x94D0_49BB_1331_11EB);
+        z ^ (z >> 31)
+    }
+
+    /// A number below `end`, which is not 0.
+    fn below(&mut self, end: usize) -> usize {
+        (self.next() % end as u64) as usize
+    }
+
+    /// One of some values.
+    fn of<T: Copy>(&mut self, from: &[T]) -> T {
+        from[self.below(from.len())]
+    }
+
+    /// Up to so many bytes, of any kind or of the kinds that cells are written in.
+    fn noise(&mut self, most: usize) -> Vec<u8> {
+        let length = self.below(most + 1);
+        let alphabet =
+            self.of(&[&b""[..], b"", b"0123456789", b"ABCDEFGHIJKLMNOPQRSTUVWXYZ0123456789", b"|:.-+#TZ09AZ "]);
+        match alphabet {
+            [] => (0..length).map(|_| self.next() as u8).collect(),
+            _ => (0..length).map(|_| self.of(alphabet)).collect(),
+        }
+    }
+
+    /// A part of some bytes, perhaps none, and at most 64 of them.
+    fn range(&mut self, length: usize) -> std::ops::Range<usize> {
+        let start = self.below(length + 1);
+        let most = (length - start).min(64);
+        start..start + self.below(most + 1)
+    }
+}
+
+/// Marks and row widths of the five lists, and of the register.
+const FRAMES: [(&[u8; 3], usize); 6] =
+    [(b"LEI", 30), (b"CTY", 10), (b"CCY", 12), (b"VEN", 13), (b"INS", 26), (b"TRN", 74)];
+
+/// Makes one call after another.
+pub struct Calls {
+    rng: Rng,
+    recipe: Recipe,
+    /// The call before, of which parts are taken.
+    before: Case,
+}
+
+impl Calls {
+    pub fn new(seed: u64) -> Calls {
+        let mut recipe = Recipe::new(seed);
+        let before = recipe.next_case().0;
+        Calls { rng: Rng::new(seed), recipe, before }
+    }
+
+    /// Of ten calls one is good, seven are changed, one has noise in good frames, and one is noise all over.
+    pub fn next_call(&mut self) -> Case {
+        let (mut case, _) = self.recipe.next_case();
+        match self.rng.below(10) {
+            0 => {}
+            1..=7 => {
+                for _ in 0..1 + self.rng.below(4) {
+                    self.change(&mut case);
+                }
+            }
+            8 => self.fill_frames(&mut case),
+            _ => self.make_noise(&mut case),
+        }
+        self.before = case.clone();
+        case
+    }
+
+    /// Changes one thing about a call, mostly its line.
+    fn change(&mut self, case: &mut Case) {
+        match self.rng.below(16) {
+            0..=4 => self.change_bytes(&mut case.line, b'|'),
+            5..=8 => self.change_cell(&mut case.line),
+            9..=10 => {
+                let list = self.rng.below(5);
+                let mut bytes = case.lists[list].to_vec();
+                self.change_bytes(&mut bytes, 0);
+                case.lists[list] = bytes.into();
+            }
+            11..=12 => self.change_bytes(&mut case.register, 0),
+            13 => case.register = self.before.register.clone(),
+            14 => self.change_moment(case),
+            _ => self.change_findings(case),
+        }
+    }
+
+    /// A flipped bit, a cut, a mark or noise put in, a part of the line before, a part twice, nothing left.
+    fn change_bytes(&mut self, bytes: &mut Vec<u8>, mark: u8) {
+        let rng = &mut self.rng;
+        let part = rng.range(bytes.len());
+        match rng.below(12) {
+            0..=3 if !bytes.is_empty() => {
+                let at = rng.below(bytes.len());
+                bytes[at] ^= 1 << rng.below(8);
+            }
+            0..=4 => bytes.truncate(part.start),
+            5 => drop(bytes.drain(part)),
+            6..=7 => bytes.insert(part.start, mark),
+            8 => drop(bytes.splice(part, rng.noise(16))),
+            9 => {
+                let other = &self.before.line[rng.range(self.before.line.len())];
+                drop(bytes.splice(part, other.iter().copied()));
+            }
+            10 => {
+                let twice = bytes[part.clone()].to_vec();
+                drop(bytes.splice(part.start..part.start, twice));
+            }
+            _ if rng.below(8) == 0 => bytes.clear(),
+            _ => bytes.push(rng.next() as u8),
+        }
+    }
+
+    /// A cell that holds noise, or what another cell holds, of this line or of the one before.
+    fn change_cell(&mut self, line: &mut Vec<u8>) {
+        let rng = &mut self.rng;
+        let mut cells: Vec<&[u8]> = line.split(|&byte| byte == b'|').collect();
+        let others: Vec<&[u8]> = self.before.line.split(|&byte| byte == b'|').collect();
+        let at = rng.below(cells.len());
+        let noise = rng.noise(40);
+        cells[at] = match rng.below(4) {
+            0 => &noise,
+            1 => rng.of(&cells),
+            2 => rng.of(&others),
+            _ => others.get(at).copied().unwrap_or(b""),
+        };
+        *line = cells.join(&b'|');
+    }
+
+    fn change_moment(&mut self, case: &mut Case) {
+        let rng = &mut self.rng;
+        let (day, micro) = (rng.next() as u32, rng.next());
+        case.day = rng.of(&[0, 18991231, 19000101, 19000229, 20240229, 20250332, 99991231, 100000101, day]);
+        case.micro = rng.of(&[0, 86_399_999_999, 86_400_000_000, u64::MAX, micro]);
+    }
+
+    fn change_findings(&mut self, case: &mut Case) {
+        let rng = &mut self.rng;
+        let any = rng.below(300);
+        let length = rng.of(&[0, 1, 136, 137, 138, 200, any]);
+        case.findings = (0..length).map(|_| rng.next() as u16).collect();
+    }
+
+    /// Good frames and 65 cells, noise within: nothing of it is refused before the rules are asked.
+    fn fill_frames(&mut self, case: &mut Case) {
+        let rng = &mut self.rng;
+        for (list, (mark, width)) in case.lists.iter_mut().zip(FRAMES) {
+            *list = framed(rng, mark, width).into();
+        }
+        if rng.below(2) == 0 {
+            case.register = framed(rng, FRAMES[5].0, FRAMES[5].1);
+        }
+        let mut cells: Vec<Vec<u8>> = (0..65).map(|_| rng.noise(40)).collect();
+        cells.iter_mut().flatten().filter(|byte| **byte == b'|').for_each(|byte| *byte = b'I');
+        cells[0] = rng.of(&[b"NEW", b"NEW", b"CXL"]).to_vec();
+        case.line = cells.join(&b'|');
+    }
+
+    /// Noise of any length for everything.
+    fn make_noise(&mut self, case: &mut Case) {
+        let rng = &mut self.rng;
+        case.line = rng.noise(5000);
+        for list in &mut case.lists {
+            *list = rng.noise(200).into();
+        }
+        case.register = rng.noise(400);
+        self.change_moment(case);
+        self.change_findings(case);
+    }
+}
+
+/// Up to 20 rows of noise behind a good head. For a register the rows are those used, and there may be room for more.
+fn framed(rng: &mut Rng, mark: &[u8; 3], width: usize) -> Vec<u8> {
+    let rows = rng.below(21);
+    let mut bytes = [&mark[..], &1u16.to_le_bytes(), &(rows as u32).to_le_bytes()].concat();
+    bytes.extend((0..rows * width).map(|_| rng.next() as u8));
+    if mark == b"TRN" {
+        bytes.extend(rng.noise(200));
+    }
+    bytes
+}

@@ -1,0 +1,66 @@
+//! The proved judge, as include/boanhetri.h declares it, called as the reference is.
+
+pub mod changes;
+pub mod guarded;
+
+use host::reference::{Call, Outcome};
+
+/// `struct boanhetri_verdict`.
+#[repr(C)]
+struct Verdict {
+    answer: u16,
+    count: u16,
+    words: [u64; 3],
+}
+
+extern "C" {
+    fn boanhetri_judge(
+        line: *const u8,
+        line_len: usize,
+        lei: *const u8,
+        lei_len: usize,
+        cty: *const u8,
+        cty_len: usize,
+        ccy: *const u8,
+        ccy_len: usize,
+        ven: *const u8,
+        ven_len: usize,
+        ins: *const u8,
+        ins_len: usize,
+        reg: *mut u8,
+        reg_len: usize,
+        day: u32,
+        micro: u64,
+        findings: *mut u16,
+        findings_len: usize,
+    ) -> Verdict;
+}
+
+/// Judges one call by the proved function.
+pub fn judge(call: Call) -> Outcome {
+    let Call { line, lei, cty, ccy, ven, ins, register, day, micro, findings } = call;
+    // Slices are what the header asks for: good for their lengths, aligned, and those that are written overlap nothing.
+    let verdict = unsafe {
+        boanhetri_judge(
+            line.as_ptr(),
+            line.len(),
+            lei.as_ptr(),
+            lei.len(),
+            cty.as_ptr(),
+            cty.len(),
+            ccy.as_ptr(),
+            ccy.len(),
+            ven.as_ptr(),
+            ven.len(),
+            ins.as_ptr(),
+            ins.len(),
+            register.as_mut_ptr(),
+            register.len(),
+            day,
+            micro,
+            findings.as_mut_ptr(),
+            findings.len(),
+        )
+    };
+    Outcome { answer: verdict.answer, count: verdict.count, words: verdict.words }
+}
