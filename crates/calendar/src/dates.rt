@@ -29,8 +29,11 @@ pub fn day_written(s: &[u8]) -> u32
 pub fn parse_date(s: &[u8]) -> Date
     ensures { λ r. ⌜ r ≡ dateOf (now (s .entry)) ⌝ }
 {
+    if !text::shaped(s, b"dddd-dd-dd") {
+        return Date::Malformed;
+    }
     let day = day_written(s);
-    if text::shaped(s, b"dddd-dd-dd") & is_day(day) {
+    if is_day(day) {
         return Date::On(day);
     }
     Date::Malformed

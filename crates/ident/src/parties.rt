@@ -222,9 +222,13 @@ pub fn person_shaped(part: &[u8], identifier: Identifier) -> bool
 fn well_formed(allowed: Allowed, identifier: Identifier, part: &[u8]) -> bool
     ensures { λ r. ⌜ r ≡ wellFormed allowed identifier (now (part .entry)) ⌝ }
 {
-    allows(allowed, identifier)
-        & part_right(part, identifier)
-        & (!allowed.shaped | !is_person(identifier) | person_shaped(part, identifier))
+    if !(allows(allowed, identifier) & part_right(part, identifier)) {
+        return false;
+    }
+    if !(allowed.shaped & is_person(identifier)) {
+        return true;
+    }
+    person_shaped(part, identifier)
 }
 
 fn identifier_of(s: &[u8], allowed: Allowed) -> Identifier

@@ -1,34 +1,34 @@
-use mathlib.Core.Path.{_≡_, _∙_, refl, ap}
-use mathlib.Core.Bool.{cond, _&&_}
-use borrow.Author.Needs.{needs}
-use Rattle.text.proofs.Bools.{cond-yes, cond-no}
-use Rattle.calendar.specs.Day.{isDay}
-use Rattle.calendar.specs.Dates.{dateOf}
-use Rattle.calendar.specs.declared.dates.Date.the-variants.{On, Malformed}
 use Rattle.calendar.proofs.dates.parse_date.Statement.{statement}
 use Rattle.calendar.proofs.dates.parse_date.Tie as tie
-
-chosen : (c : tie.After-is-day)
-    → cond (c .before .shaped .result && c .is-day .result) (On (c .before .before .before .day-written .result)) Malformed
-    ≡ dateOf (c .before .before .before .before .before .args .s .now)
-unfolding dateOf
-chosen c =
-    let day = c .before .before .before .day-written .ensures in
-    λ i. cond ((c .before .shaped .ensures) i && (c .is-day .ensures ∙ ap isDay day) i) (On (day i)) Malformed
+use mathlib.Core.Path.{_≡_, _∙_, sym, ap}
+use borrow.Author.Tests.{not-true, not-false}
+use Rattle.calendar.specs.Day.{isDay}
+use Rattle.calendar.specs.Dates.{dateOf}
+use Rattle.calendar.specs.declared.dates.Date.the-variants.{On}
+use borrow.Author.Needs.{needs}
 
 returns : tie.Need-returns
-returns c = cond-yes Malformed (c .if1 .taken) refl ∙ chosen (c .before)
+unfolding dateOf
+returns c = rw (sym ((c .before .shaped) .ensures) ∙ not-true _ ((c .if1) .taken))
 
 returns-2 : tie.Need-returns-2
-returns-2 c = cond-no (On (c .before .before .before .before .day-written .result)) (c .if1 .left) refl ∙ chosen (c .before)
+unfolding dateOf
+returns-2 c =
+    let day = (c .before .before .day-written) .ensures in
+    ap On day ∙ rw (sym ((c .before .before .before .before .shaped) .ensures) ∙ not-false _ ((c .before .before .before .if1) .left), ap isDay (sym day) ∙ sym ((c .before .is-day) .ensures) ∙ (c .if2) .taken)
+
+returns-3 : tie.Need-returns-3
+unfolding dateOf
+returns-3 c = rw (sym ((c .before .before .before .before .shaped) .ensures) ∙ not-false _ ((c .before .before .before .if1) .left), ap isDay (sym ((c .before .before .day-written) .ensures)) ∙ sym ((c .before .is-day) .ensures) ∙ (c .if2) .left)
 
 pub parse-date-spec : {M : Type 1} → statement M
 parse-date-spec =
     tie.close
     (tie.spec
-    (λ c κs. search needs)
     (λ c. search needs)
     (λ c κs. search needs)
-    (λ c κs. search needs)
     returns
-    returns-2)
+    (λ c κs. search needs)
+    (λ c κs. search needs)
+    returns-2
+    returns-3)
