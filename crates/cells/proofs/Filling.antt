@@ -1,16 +1,14 @@
 -- The two tables while a line is walked: the bars met so far end a cell each, and the next cell starts behind them.
 use mathlib.Core.Path.{_≡_, _∙_, refl, sym, ap}
-use mathlib.Core.Bool.{Bool, true, false, cond}
+use mathlib.Core.Bool.{true}
 use mathlib.Core.List.{List, [], _∷_, _++_, map, append-assoc, append-nil}
-use Prim.Native.Nat.{ℕ, zero, suc, _+_, _-_, _≤_, _<_}
+use Prim.Native.Nat.{ℕ, suc, _+_, _≤_, _<_}
 use native.Mathlib.Numerals.{add-one}
 use native.Mathlib.Omega.{arith}
 use borrow.Author.Tests.{eq-eqb, ne-eqb}
-use lib.Dec.{eqb}
 use lib.ListN.{length, getD, take, drop, set, replicate, length-set, drop-of-length-le}
 use lib.Seq.{take-suc-set, take-all, take-set-le}
 use Rattle.text.proofs.Lists.{rest-at}
-use Rattle.cells.specs.declared.SplitLine.{SplitLine}
 use Rattle.cells.specs.Cells.{barsOf}
 use Rattle.cells.specs.Split.{barPlaces, startsOf, endsOf, splitOf, notSplit}
 

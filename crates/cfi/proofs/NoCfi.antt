@@ -1,12 +1,11 @@
 -- What has not six letters matches no pattern, so no rule by CFI is broken.
-use mathlib.Core.Path.{_≡_, _∙_, refl, sym, ap}
-use mathlib.Core.Bool.{Bool, true, false, _&&_, _||_, and-false}
+use mathlib.Core.Path.{_≡_, _∙_, refl, sym}
+use mathlib.Core.Bool.{true, false, _&&_, and-false}
 use mathlib.Core.List.{List, [], _∷_, map}
 use Prim.Native.Nat.{ℕ}
 use borrow.Author.Tests.{eqb-true}
 use lib.Dec.{eqb}
 use lib.ListN.{length, getD, replicate}
-use Rattle.text.specs.Shape.{shape}
 use Rattle.text.proofs.Bools.{and-left, and-right}
 use Rattle.text.proofs.WordLaws.{other-length}
 use Rattle.cfi.specs.Rules.{Rule, rules, wrong, any, matches, broken, violated, codes, cfiFindings}

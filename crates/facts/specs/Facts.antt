@@ -3,7 +3,7 @@ use Prim.Native.Nat.{ℕ}
 use mathlib.Core.Bool.{Bool, not, _&&_, _||_}
 use mathlib.Core.List.{List}
 use lib.Dec.{eqb}
-use Rattle.text.specs.Word.{blank, same}
+use Rattle.text.specs.Word.{blank}
 use Rattle.cells.specs.Cells.{cell}
 use Rattle.calendar.specs.declared.moments.Moment.{Moment}
 use Rattle.ident.specs.Party.{allowed7, allowed12}
@@ -20,8 +20,8 @@ use Rattle.facts.specs.declared.trades.TradeFacts.{TradeFacts}
 use Rattle.facts.specs.declared.lines.DealFacts.{DealFacts}
 use Rattle.facts.specs.declared.lines.Facts.{Facts}
 use Rattle.facts.specs.Call.{Call}
-use Rattle.facts.specs.Words.{present, says, off, momentOf, isLive, isAbsent, isCancelled, leiGoodUnlapsed, leiGood, leiWrong, countryWrong, kind1, kind2, kind3, partyLeiWrong, partyCountryWrong, partyMicWrong, partyShapeWrong, birthWrong, isLate, isPast, isEntity, currencyWrong, quantityCurrencyWrong, secondCurrency, notBefore, tooOld, heldQuantity, heldPrice}
-use Rattle.facts.specs.Rules.{isNew, isCxl, goodCells, at, T, standingOf, holdings}
+use Rattle.facts.specs.Words.{present, says, off, momentOf, isLive, leiGoodUnlapsed, leiGood, leiWrong, countryWrong, kind1, kind2, kind3, partyLeiWrong, partyCountryWrong, partyMicWrong, partyShapeWrong, birthWrong, isLate, isPast, isEntity, currencyWrong, quantityCurrencyWrong, secondCurrency, notBefore, tooOld, heldQuantity, heldPrice}
+use Rattle.facts.specs.Rules.{goodCells, at, T, standingOf, holdings}
 
 unfoldable pub leiFit : List ℕ → List ℕ → ℕ → LeiFit
 leiFit lei s day = record { unlapsed = leiGoodUnlapsed lei s day; any = leiGood lei s day }
@@ -102,12 +102,8 @@ dealOf line entity =
 unfoldable pub factsOf : Call → Facts
 factsOf c =
     record {
-      new = isNew (c .line);
-      cxl = isCxl (c .line);
       ok = goodCells (c .line);
       live = isLive (standingOf c);
-      absent = isAbsent (standingOf c);
-      cancelled = isCancelled (standingOf c);
       entity = entityOf (c .line) (c .lei) (T c) (c .day);
       parties = partiesOf (c .line) (c .lei) (c .cty) (c .ven) (T c);
       country8 = countryWrong (c .cty) (at c 8) (T c);

@@ -1,11 +1,11 @@
 -- The 72 rules, one entry each in rising order: the code, for which lines it is judged, the cells that it reads, and when it is violated.
 use Prim.Native.Nat.{ℕ}
-use mathlib.Core.Bool.{Bool, true, false, not, _&&_, _||_}
+use mathlib.Core.Bool.{Bool, false, not, _&&_, _||_}
 use mathlib.Core.List.{List, [], _∷_, _++_, map}
 use lib.Dec.{eqb}
 use lib.ListN.{getD, set, replicate}
 use Rattle.text.specs.Ascii.{ascii}
-use Rattle.text.specs.Word.{blank, same}
+use Rattle.text.specs.Word.{blank}
 use Rattle.cells.specs.Cells.{cell}
 use Rattle.forms.specs.Findings.{formFindings}
 use Rattle.ident.specs.Party.{allowed7, allowed12}

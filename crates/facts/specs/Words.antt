@@ -2,9 +2,9 @@
 use Prim.Native.Nat.{ℕ, _+_}
 use Prim.Native.String.{String}
 use mathlib.Core.Bool.{Bool, true, false, cond, not, _&&_, _||_}
-use mathlib.Core.List.{List, [], _∷_}
+use mathlib.Core.List.{List, []}
 use lib.Dec.{eqb, ltb}
-use lib.ListN.{length, drop, set, replicate}
+use lib.ListN.{drop}
 use Rattle.text.specs.Ascii.{ascii}
 use Rattle.text.specs.Word.{blank, same, startsWith, oneOf}
 use Rattle.calendar.specs.Day.{dayNumber}
@@ -22,7 +22,7 @@ use Rattle.ident.specs.declared.parties.Allowed.{Allowed}
 use Rattle.ident.specs.declared.parties.Identifier.{Identifier}
 use Rattle.amount.specs.Price.{priceOf, priceKind}
 use Rattle.amount.specs.Quantity.{quantityOf, quantityKind}
-use Rattle.lists.specs.Lookups.{leiRows, countryKnown, currencyRows, venueRows, instrumentRows}
+use Rattle.lists.specs.Lookups.{leiRows, countryKnown, currencyRows, venueRows}
 use Rattle.register.specs.declared.rows.Standing.{Standing}
 use Rattle.register.specs.declared.rows.Standing.the-variants.{Absent, Live, Cancelled}
 

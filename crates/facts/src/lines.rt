@@ -32,14 +32,10 @@ pub struct DealFacts {
 }
 
 pub struct Facts {
-    pub new: bool,
-    pub cxl: bool,
     // cell f has no form finding, by its number; 0 stands for no cell
     pub ok: [bool; 66],
-    // 023, 024 and 025
+    // 023
     pub live: bool,
-    pub absent: bool,
-    pub cancelled: bool,
     pub entity: EntityFacts,
     pub parties: PartiesFacts,
     // 080, 170 and 371
@@ -139,7 +135,6 @@ pub fn line_facts<'a, 't>(
     requires { ⌜ Tabled (now line) (now starts) (now ends) × (now found ≡ formFindings (now line)) ⌝ }
     ensures { λ r. ⌜ ((register : List ℕ) → standing ≡ pairStands register (now (line .entry)) → r ≡ factsOf (call (now (line .entry)) (now (lei .entry)) (now (cty .entry)) (now (ccy .entry)) (now (ven .entry)) (now (ins .entry)) register day micro)) ⌝ }
 {
-    let c1 = cells::cell(line, starts, ends, 1);
     let moment = moment_of(cells::cell(line, starts, ends, 28));
     let t = moment.day;
     let parties = parties_facts(line, starts, ends, lei, cty, ven, t);
@@ -148,12 +143,8 @@ pub fn line_facts<'a, 't>(
     let own = buyer.entity | seller.entity;
     let held = holdings(line, starts, ends);
     Facts {
-        new: text::same(c1, b"NEW"),
-        cxl: text::same(c1, b"CXL"),
         ok: good_cells(found),
         live: is_live(standing),
-        absent: is_absent(standing),
-        cancelled: is_cancelled(standing),
         entity: entity_facts(line, starts, ends, lei, t, day),
         parties,
         country8: country_wrong(cty, cells::cell(line, starts, ends, 8), t),

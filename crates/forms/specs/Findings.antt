@@ -1,7 +1,7 @@
 -- Findings 1001 to 1065. Code 1000 + f: cell f is malformed, or blank though needed.
-use Prim.Native.Nat.{ℕ, zero, suc}
-use mathlib.Core.Bool.{Bool, true, false, cond, not, _&&_, _||_}
-use mathlib.Core.List.{List, [], _∷_, map}
+use Prim.Native.Nat.{ℕ}
+use mathlib.Core.Bool.{Bool, false, cond, not, _||_}
+use mathlib.Core.List.{List, map}
 use lib.Dec.{eqb}
 use Rattle.text.specs.Ascii.{ascii}
 use Rattle.text.specs.Word.{blank, same}

@@ -1,6 +1,6 @@
 -- A cell that is well formed is the word of its kind, with the part behind it: the places are right.
-use mathlib.Core.Path.{_≡_, refl, sym, ap}
-use mathlib.Core.Bool.{Bool, true, false, cond, _&&_, true≢false}
+use mathlib.Core.Path.{_≡_, refl, sym}
+use mathlib.Core.Bool.{Bool, true, false, cond, true≢false}
 use mathlib.Core.List.{List, [], _∷_, _++_}
 use Prim.Native.Nat.{ℕ}
 use borrow.Author.Tests.{eqb-true}
@@ -8,10 +8,10 @@ use lib.Dec.{eqb}
 use lib.ListN.{length, drop}
 use Rattle.text.specs.Ascii.{ascii}
 use Rattle.text.specs.Word.{same, startsWith}
-use Rattle.text.proofs.Bools.{and-left, and-right, by-test}
+use Rattle.text.proofs.Bools.{and-left, and-right}
 use Rattle.ident.specs.declared.parties.Allowed.{Allowed}
 use Rattle.ident.specs.declared.parties.Identifier.{Identifier}
-use Rattle.ident.specs.declared.parties.Identifier.the-variants.{Intc, Nore, Lei, Ccpt, Concat, Nidn, Mic, Algo, Malformed}
+use Rattle.ident.specs.declared.parties.Identifier.the-variants.{Malformed}
 use Rattle.ident.specs.Party.{named, wordOf, partOf, wellFormed, identifierOf, isMalformed}
 
 begins : (word s : List ℕ) → startsWith word s ≡ true → s ≡ word ++ drop (length word) s

@@ -1,16 +1,14 @@
 -- The outcome of a call, case by case.
-use mathlib.Core.Path.{_≡_, _∙_, refl, sym, ap}
-use mathlib.Core.Bool.{Bool, true, false, cond, not, _&&_}
-use mathlib.Core.List.{List, [], _∷_, _++_}
-use Prim.Native.Nat.{ℕ, zero, suc}
-use lib.Dec.{eqb}
-use lib.ListN.{length}
+use mathlib.Core.Path.{_≡_, _∙_}
+use mathlib.Core.Bool.{true, false}
+use mathlib.Core.List.{[], _∷_}
+use Prim.Native.Nat.{ℕ, suc}
 use borrow.Author.Tests.{eq-eqb, ne-eqb}
 use native.Mathlib.Omega.{arith}
 use Rattle.text.specs.FirstFrom.{firstFrom}
 use Rattle.facts.specs.Call.{Call}
-use Rattle.judge.specs.Refusal.{allFlags, clean, early, notWhole, noRoom, refusal}
-use Rattle.judge.specs.Outcome.{Outcome, refusedOutcome, judgedOutcome, outcome}
+use Rattle.judge.specs.Refusal.{early, notWhole, noRoom, refusal}
+use Rattle.judge.specs.Outcome.{refusedOutcome, judgedOutcome, outcome}
 use Rattle.judge.proofs.Firsts.{passed, stopped}
 
 module _ (c : Call) (room : ℕ) where

@@ -1,11 +1,10 @@
 -- The contract of a call, from what its callees answer.
 use mathlib.Core.Path.{_≡_, _∙_, refl, sym, ap}
-use mathlib.Core.Bool.{Bool, true, false, cond, not, _&&_, and-assoc}
-use mathlib.Core.List.{List, [], _∷_, _++_}
-use Prim.Native.Nat.{ℕ, zero, suc, _≤_}
+use mathlib.Core.Bool.{Bool, true, false, _&&_, and-assoc}
+use mathlib.Core.List.{List, [], _∷_}
+use Prim.Native.Nat.{ℕ, _≤_}
 use native.Mathlib.Omega.{arith}
-use lib.Dec.{eqb, ltb}
-use lib.ListN.{length, drop}
+use lib.ListN.{length}
 use borrow.Author.Tests.{eq-eqb, ne-eqb, ltb-false}
 use Rattle.text.specs.FirstFrom.{firstFrom}
 use Rattle.cells.specs.Cells.{barsOf}
@@ -16,10 +15,10 @@ use Rattle.facts.specs.Rules.{isNew, standingOf}
 use Rattle.verdict.specs.declared.Verdict.{Verdict}
 use Rattle.verdict.specs.Codes.{codeCount}
 use Rattle.verdict.specs.Verdict.{codesFound, verdictOf, refusedBy}
-use Rattle.verdict.specs.Findings.{over, findingsAfter}
+use Rattle.verdict.specs.Findings.{findingsAfter}
 use Rattle.verdict.proofs.ListLaws.{after-room}
 use Rattle.judge.specs.Refusal.{allFlags, clean, early, notWhole, noRoom}
-use Rattle.judge.specs.Outcome.{written, refusedOutcome, judgedOutcome, outcome, Judged}
+use Rattle.judge.specs.Outcome.{written, refusedOutcome, outcome, Judged}
 use Rattle.judge.proofs.Firsts.{none-holds}
 use Rattle.judge.proofs.Cases.{out-early, out-ten, out-eleven, out-judged}
 

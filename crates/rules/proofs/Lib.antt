@@ -1,4 +1,4 @@
 -- That the contract leaves one answer, and that the flags stand in the order of the codes.
 mod Unique
-mod NotNew
+mod ByStatus
 pub mod InOrder

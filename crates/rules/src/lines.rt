@@ -1,6 +1,6 @@
 // The 137 flags of a line: 72 rules, then 65 forms.
 ghost use mathlib.Core.Path.{_≡_};
-ghost use mathlib.Core.Bool.{false};
+ghost use mathlib.Core.Bool.{true, false};
 ghost use mathlib.Core.List.{List, _++_};
 ghost use Prim.Native.Nat.{ℕ};
 ghost use Rattle.cells.specs.Split.{Tabled};
@@ -55,7 +55,7 @@ fn when_new<'a, 't>(
     micro: u64,
 ) -> [bool; CODE_COUNT]
     requires { ⌜ Tabled (now line) (now starts) (now ends) × (now forms ≡ formFindings (now line)) ⌝ }
-    ensures { λ r. ⌜ ((register : List ℕ) → standing ≡ pairStands register (now (line .entry)) → r ≡ flags (call (now (line .entry)) (now (lei .entry)) (now (cty .entry)) (now (ccy .entry)) (now (ven .entry)) (now (ins .entry)) register day micro) ++ formFindings (now (line .entry))) ⌝ }
+    ensures { λ r. ⌜ ((register : List ℕ) → standing ≡ pairStands register (now (line .entry)) → isNew (now (line .entry)) ≡ true → r ≡ flags (call (now (line .entry)) (now (lei .entry)) (now (cty .entry)) (now (ccy .entry)) (now (ven .entry)) (now (ins .entry)) register day micro) ++ formFindings (now (line .entry))) ⌝ }
 {
     let f = facts::line_facts(
         line,

@@ -1,6 +1,6 @@
 -- Truth values: what a formula tells of its parts, and a chain of choices.
 use mathlib.Core.Path.{_≡_, refl, sym}
-use mathlib.Core.Bool.{Bool, true, false, cond, not, _&&_, _||_, true≢false}
+use mathlib.Core.Bool.{Bool, true, false, cond, _&&_, _||_, true≢false}
 use mathlib.Core.Logic.{_⊎_, inl, inr}
 
 pub and-left : (a b : Bool) → (a && b) ≡ true → a ≡ true

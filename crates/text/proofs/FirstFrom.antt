@@ -1,7 +1,7 @@
 -- The first test of a list that holds: what one test decides.
-use mathlib.Core.Path.{_≡_, refl}
+use mathlib.Core.Path.{_≡_}
 use mathlib.Core.Bool.{Bool, true, false}
-use mathlib.Core.List.{List, [], _∷_}
+use mathlib.Core.List.{List, _∷_}
 use Prim.Native.Nat.{ℕ, suc}
 use Rattle.text.specs.FirstFrom.{firstFrom}
 

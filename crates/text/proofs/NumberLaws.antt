@@ -1,8 +1,8 @@
 -- Numbers in digits: how large they get, and one row of digits behind another.
-use mathlib.Core.Path.{_≡_, _∙_, sym, refl, ap}
-use mathlib.Core.Bool.{Bool, true, false, cond, _&&_}
+use mathlib.Core.Path.{_≡_, _∙_, refl}
+use mathlib.Core.Bool.{Bool, true, false, cond}
 use mathlib.Core.List.{List, [], _∷_, _++_}
-use Prim.Native.Nat.{ℕ, zero, suc, _+_, _*_, _-_, _^_, _≤_, _<_}
+use Prim.Native.Nat.{ℕ, suc, _+_, _*_, _-_, _^_, _≤_, _<_}
 use native.Mathlib.Nat.{add-zero, pow-suc, pow-le-pow-right}
 use native.Mathlib.Numerals.{add-one}
 use native.Mathlib.Omega.{arith}
@@ -13,7 +13,7 @@ use Rattle.text.specs.declared.classes.Class.the-variants.{Digit}
 use Rattle.text.specs.Class.{inClass}
 use lib.Seq.{getD-drop}
 use Rattle.text.specs.Number.{digitOf, numeral, numberOf, twoDigits, fourDigits, eightDigits, littleEndian}
-use Rattle.text.proofs.Bools.{and-left, and-right, by-test}
+use Rattle.text.proofs.Bools.{and-left, and-right}
 use Rattle.text.proofs.Lists.{rest-at}
 
 pub digit-yes : (b : ℕ) → inClass Digit b ≡ true → (48 ≤ b) × (b ≤ 57)

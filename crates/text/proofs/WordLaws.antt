@@ -1,13 +1,12 @@
 -- Words and shapes, from a place on.
 use mathlib.Core.Path.{_≡_, _∙_, sym, refl, ap}
-use mathlib.Core.Bool.{Bool, true, false, _&&_, _||_, and-true, and-false, and-assoc, true≢false}
+use mathlib.Core.Bool.{Bool, true, false, _&&_, and-true, and-false, and-assoc, true≢false}
 use mathlib.Core.List.{List, [], _∷_}
 use Prim.Native.Nat.{ℕ, zero, suc, _+_, _-_, _≤_, _<_}
-use native.Mathlib.Numerals.{add-one}
 use native.Mathlib.Omega.{arith}
 use borrow.Author.Tests.{eq-eqb, ne-eqb}
 use lib.Dec.{eqb, eqb·suc-zero, eqb·suc-suc}
-use lib.ListN.{length, getD, take, drop, drop-of-length-le, length-drop}
+use lib.ListN.{length, getD, take, drop, drop-of-length-le}
 use lib.Seq.{drop-drop, take-all, take-nil}
 use Rattle.text.specs.Word.{startsWith, same, among, oneOf}
 use Rattle.text.specs.Shape.{suits, shape}

@@ -6,7 +6,6 @@ use Prim.Native.Nat.{ℕ, _*_, _≤_, _<_}
 use native.Mathlib.Omega.{arith}
 use lib.ListN.{length, getD, take, drop}
 use lib.Seq.{take-append-seam, drop-append-seam}
-use Rattle.verdict.specs.declared.Verdict.{Verdict}
 use Rattle.verdict.specs.Codes.{ruleCodes, formCodes, codes, codeCount}
 use Rattle.verdict.specs.Verdict.{bit, words, pick, codesFound, verdictOf}
 use Rattle.verdict.specs.Findings.{findingsAfter}

@@ -1,6 +1,6 @@
 use Rattle.cells.proofs.split.Statement.{statement}
 use Rattle.cells.proofs.split.Tie as tie
-use mathlib.Core.Path.{_≡_, _∙_}
+use mathlib.Core.Path.{_∙_}
 use mathlib.Core.Logic.{⊎-elim}
 use Prim.Native.Nat.{_-_, _<_}
 use lib.ListN.{length, getD}

@@ -1,7 +1,7 @@
 use Rattle.judge.proofs.early_refusal.Statement.{statement}
 use Rattle.judge.proofs.early_refusal.Tie as tie
 use Rattle.register.proofs.framed.Reads as frame-framed-reads′
-use mathlib.Core.Path.{_∙_, refl}
+use mathlib.Core.Path.{_∙_}
 use mathlib.Core.Bool.{not}
 use mathlib.Core.List.{[], _∷_}
 use lib.Dec.{ltb}

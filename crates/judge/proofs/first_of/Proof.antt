@@ -1,6 +1,6 @@
 use Rattle.judge.proofs.first_of.Statement.{statement}
 use Rattle.judge.proofs.first_of.Tie as tie
-use Prim.Native.Nat.{_-_, _≤_}
+use Prim.Native.Nat.{_-_}
 use mathlib.Core.Path.{_≡_}
 use lib.ListN.{length}
 use Rattle.judge.proofs.Firsts.{NoneSoFar, none-start, none-on, none-hit, none-end}

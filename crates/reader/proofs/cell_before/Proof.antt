@@ -1,6 +1,6 @@
 use Rattle.reader.proofs.cell_before.Statement.{statement}
 use Rattle.reader.proofs.cell_before.Tie as tie
-use mathlib.Core.Path.{_≡_, refl}
+use mathlib.Core.Path.{_≡_}
 use Prim.Native.Nat.{_-_}
 use borrow.Author.Needs.{needs}
 use native.Mathlib.Omega.{arith}

@@ -9,7 +9,6 @@ use borrow.Author.Tests.{lt-ltb, le-ltb, eqb-true, eqb-false, not-true, not-fals
 use Rattle.cells.specs.Cells.{firstCell}
 use Rattle.reader.specs.Reading.{isOver, placeAfter, cellFrom}
 use Rattle.reader.proofs.ReadingLaws.{first-bar, first-other, first-end}
-use borrow.Author.Needs.{needs}
 use native.Mathlib.Omega.{arith}
 
 abbrev Inv-loop : tie.InvT-loop

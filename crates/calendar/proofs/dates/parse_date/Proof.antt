@@ -1,6 +1,6 @@
 use Rattle.calendar.proofs.dates.parse_date.Statement.{statement}
 use Rattle.calendar.proofs.dates.parse_date.Tie as tie
-use mathlib.Core.Path.{_≡_, _∙_, sym, ap}
+use mathlib.Core.Path.{_∙_, sym, ap}
 use borrow.Author.Tests.{not-true, not-false}
 use Rattle.calendar.specs.Day.{isDay}
 use Rattle.calendar.specs.Dates.{dateOf}

@@ -1,15 +1,13 @@
 use Rattle.facts.proofs.parties.party_facts.Statement.{statement}
 use Rattle.facts.proofs.parties.party_facts.Tie as tie
-use mathlib.Core.Path.{_≡_, _∙_, ap}
+use mathlib.Core.Path.{_∙_, ap}
 use mathlib.Core.Bool.{not, _&&_}
-use mathlib.Core.List.{List}
-use Prim.Native.Nat.{ℕ}
 use lib.Dec.{eqb}
 use lib.ListN.{length}
 use Rattle.ident.specs.Party.{partOf, isLei, isMic, isConcat, isPerson}
 use Rattle.ident.specs.Person.{countryOf, concatDay}
 use Rattle.ident.specs.declared.parties.Party.{Party}
-use Rattle.facts.specs.Words.{off, leiGood, countryWrong, kind1, kind3, kindOf, partIn, partyLeiWrong, partyCountryWrong, partyMicWrong, partyShapeWrong, birthWrong, isEntity}
+use Rattle.facts.specs.Words.{off, leiGood, countryWrong, kind1, kind3, partyLeiWrong, partyCountryWrong, partyMicWrong, partyShapeWrong, birthWrong, isEntity}
 use Rattle.facts.specs.Facts.{partyFactsOf}
 use mathlib.Core.Bool.{_||_}
 use Rattle.text.specs.Word.{same}

@@ -1,10 +1,8 @@
 use Rattle.forms.proofs.findings.form_findings.Statement.{statement}
 use Rattle.forms.proofs.findings.form_findings.Tie as tie
-use mathlib.Core.Path.{_≡_, _∙_, sym, ap}
+use mathlib.Core.Path.{_∙_, sym, ap}
 use mathlib.Core.Bool.{false}
-use mathlib.Core.List.{List}
-use Prim.Native.Nat.{ℕ, _≤_, _<_, _-_}
-use lib.ListN.{length}
+use Prim.Native.Nat.{_≤_, _<_, _-_}
 use Rattle.text.proofs.Fill.{Begun, begun-none, begun-more, begun-all}
 use Rattle.forms.specs.Findings.{statusOf, formFindings}
 use Rattle.forms.proofs.FindingLaws.{findings-count, found-at}

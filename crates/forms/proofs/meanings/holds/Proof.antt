@@ -1,7 +1,7 @@
 use Rattle.forms.proofs.meanings.holds.Statement.{statement}
 use Rattle.forms.proofs.meanings.holds.Tie as tie
-use mathlib.Core.Path.{_≡_, _∙_, ap}
-use mathlib.Core.Bool.{Bool, not, _||_}
+use mathlib.Core.Path.{_∙_, ap}
+use mathlib.Core.Bool.{not, _||_}
 use lib.Dec.{eqb}
 use Rattle.calendar.specs.Dates.{isDate}
 use Rattle.calendar.specs.Moments.{isWhen}

@@ -1,16 +1,16 @@
 use Rattle.rules.proofs.later.cfi_and_dates.Statement.{statement}
 use Rattle.rules.proofs.later.cfi_and_dates.Tie as tie
-use mathlib.Core.Path.{_≡_, _∙_, ap}
-use mathlib.Core.List.{map}
+use mathlib.Core.Path.{_∙_, ap}
 use Rattle.cfi.specs.Rules.{cfiFindings}
-use Rattle.facts.specs.Rules.{given, rules6}
+use Rattle.facts.specs.Rules.{rules6}
 use Rattle.facts.specs.Facts.{entityOf, partyFactsOf, partiesOf, timeOf, moneyOf, tradeOf, dealOf, factsOf}
 use Rattle.verdict.specs.Findings.{put}
+use Rattle.rules.proofs.ByStatus.{when-new}
 use borrow.Author.Needs.{needs}
 
 returns : tie.Need-returns
 unfolding factsOf entityOf partiesOf partyFactsOf timeOf moneyOf tradeOf dealOf cfiFindings
-returns c = λ k e. c .place .ensures ∙ ap (put (c .before .before .before .before .before .before .before .before .before .before .before .args .base) 60) (rw e)
+returns c = λ k n e. (c .place) .ensures ∙ ap (put ((c .before .before .before .before .before .before .before .before .before .before .before .args) .base) 60) (rw e (when-new k n rules6))
 
 pub cfi-and-dates-spec : {M : Type 1} → statement M
 cfi-and-dates-spec =

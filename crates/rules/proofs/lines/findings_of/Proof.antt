@@ -1,12 +1,12 @@
 use Rattle.rules.proofs.lines.findings_of.Statement.{statement}
 use Rattle.rules.proofs.lines.findings_of.Tie as tie
-use mathlib.Core.Path.{_≡_, _∙_, sym, ap}
+use mathlib.Core.Path.{_∙_, sym, ap}
 use Rattle.text.specs.Ascii.{ascii}
 use Rattle.text.specs.Word.{same}
 use borrow.Author.Needs.{needs}
 
 returns : tie.Need-returns
-returns c = (c .when-new) .ensures
+returns c = λ register stands. (c .when-new) .ensures register stands (ap (same (ascii "NEW")) (sym ((c .before .before .before .before .before .cell) .ensures)) ∙ sym ((c .before .before .before .same) .ensures) ∙ (c .before .before .if1) .taken)
 
 returns-2 : tie.Need-returns-2
 returns-2 c =

@@ -16,7 +16,7 @@ use Rattle.facts.specs.Facts.{leiFit}
 use Rattle.facts.specs.Rules.{isCxl, goodCells, flags}
 use Rattle.verdict.specs.Findings.{put}
 use Rattle.verdict.proofs.PlaceLaws.{Filled, filled-more, filled-all}
-use Rattle.rules.proofs.NotNew.{not-new}
+use Rattle.rules.proofs.ByStatus.{not-new}
 use borrow.Author.Needs.{needs}
 use native.Mathlib.Omega.{arith}
 

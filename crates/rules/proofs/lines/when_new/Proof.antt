@@ -1,6 +1,6 @@
 use Rattle.rules.proofs.lines.when_new.Statement.{statement}
 use Rattle.rules.proofs.lines.when_new.Tie as tie
-use mathlib.Core.Path.{_≡_, _∙_, refl, ap}
+use mathlib.Core.Path.{_∙_, refl, ap}
 use mathlib.Core.Bool.{false}
 use mathlib.Core.List.{[], map}
 use lib.ListN.{replicate}
@@ -10,24 +10,24 @@ use Rattle.facts.specs.Call.{call}
 use Rattle.facts.specs.Rules.{given, rules1, rules2, rules3, rules4, rules5, rules6, flags}
 use Rattle.verdict.specs.Findings.{put}
 use Rattle.verdict.proofs.PlaceLaws.{Filled, filled-none, filled-more, filled-all}
-use borrow.Author.Needs.{needs}
 use native.Mathlib.Omega.{arith}
+use borrow.Author.Needs.{needs}
 
 returns : tie.Need-returns
 unfolding flags
 returns c =
-    λ register stands.
+    λ register stands new.
     let a = (c .before .before .before .before .before .before .before .before .before .before .before .before .before .before .before .args) in
     let l = a .line .now in
     let k = call l (a .lei .now) (a .cty .now) (a .ccy .now) (a .ven .now) (a .ins .now) register (a .day) (a .micro) in
     let e = (c .before .before .before .before .before .before .before .before .line-facts) .ensures register stands in
     let s0 : Filled 0 [] (replicate 137 false) = filled-none refl in
-    let s1 = filled-more s0 (map (given k) rules1) 12 refl (omega arith) ((c .before .before .before .before .before .before .before .pair-and-buyer) .ensures k e) in
-    let s2 = filled-more s1 (map (given k) rules2) 12 refl (omega arith) ((c .before .before .before .before .before .before .deciders-and-seller) .ensures k e) in
-    let s3 = filled-more s2 (map (given k) rules3) 12 refl (omega arith) ((c .before .before .before .before .before .seller-and-time) .ensures k e) in
-    let s4 = filled-more s3 (map (given k) rules4) 12 refl (omega arith) ((c .before .before .before .before .price-and-venue) .ensures k e) in
-    let s5 = filled-more s4 (map (given k) rules5) 12 refl (omega arith) ((c .before .before .before .currencies-and-cfi) .ensures k e) in
-    let s6 = filled-more s5 (map (given k) rules6) 12 refl (omega arith) ((c .before .before .cfi-and-dates) .ensures k e) in
+    let s1 = filled-more s0 (map (given k) rules1) 12 refl (omega arith) ((c .before .before .before .before .before .before .before .pair-and-buyer) .ensures k new e) in
+    let s2 = filled-more s1 (map (given k) rules2) 12 refl (omega arith) ((c .before .before .before .before .before .before .deciders-and-seller) .ensures k new e) in
+    let s3 = filled-more s2 (map (given k) rules3) 12 refl (omega arith) ((c .before .before .before .before .before .seller-and-time) .ensures k new e) in
+    let s4 = filled-more s3 (map (given k) rules4) 12 refl (omega arith) ((c .before .before .before .before .price-and-venue) .ensures k new e) in
+    let s5 = filled-more s4 (map (given k) rules5) 12 refl (omega arith) ((c .before .before .before .currencies-and-cfi) .ensures k new e) in
+    let s6 = filled-more s5 (map (given k) rules6) 12 refl (omega arith) ((c .before .before .cfi-and-dates) .ensures k new e) in
     filled-all (filled-more s6 (formFindings l) 65 (findings-count l) (omega arith) ((c .place) .ensures ∙ ap (put ((c .before .before .cfi-and-dates) .result) 72) ((c .before .before .before .before .before .before .before .before .before .before .before .before .before .before .before .pre) .1)))
 
 pub when-new-spec : {M : Type 1} → statement M

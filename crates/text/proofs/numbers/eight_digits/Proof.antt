@@ -1,6 +1,6 @@
 use Rattle.text.proofs.numbers.eight_digits.Statement.{statement}
 use Rattle.text.proofs.numbers.eight_digits.Tie as tie
-use Rattle.text.specs.Number.{fourDigits, eightDigits}
+use Rattle.text.specs.Number.{eightDigits}
 use Rattle.text.proofs.NumberLaws.{four-small}
 use borrow.Author.Needs.{needs}
 use native.Mathlib.Omega.{arith}

@@ -1,6 +1,6 @@
 use Rattle.text.proofs.numbers.four_digits.Statement.{statement}
 use Rattle.text.proofs.numbers.four_digits.Tie as tie
-use Rattle.text.specs.Number.{twoDigits, fourDigits}
+use Rattle.text.specs.Number.{fourDigits}
 use Rattle.text.proofs.NumberLaws.{two-small}
 use borrow.Author.Needs.{needs}
 use native.Mathlib.Omega.{arith}

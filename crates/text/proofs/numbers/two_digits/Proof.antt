@@ -1,7 +1,6 @@
 use Rattle.text.proofs.numbers.two_digits.Statement.{statement}
 use Rattle.text.proofs.numbers.two_digits.Tie as tie
-use lib.ListN.{getD}
-use Rattle.text.specs.Number.{digitOf, twoDigits}
+use Rattle.text.specs.Number.{twoDigits}
 use Rattle.text.proofs.NumberLaws.{digit-small}
 use borrow.Author.Needs.{needs}
 use native.Mathlib.Omega.{arith}

@@ -1,6 +1,5 @@
 use Rattle.text.proofs.numbers.written_on.Statement.{statement}
 use Rattle.text.proofs.numbers.written_on.Tie as tie
-use mathlib.Core.Path.{sym, _∙_}
 use Prim.Native.Nat.{_-_}
 use lib.ListN.{length, getD}
 use Rattle.text.proofs.NumberLaws.{ReadSoFar, read-start, read-small, read-on, read-end, digit-small}

@@ -1,11 +1,8 @@
 use Rattle.text.proofs.words.one_of.Statement.{statement}
 use Rattle.text.proofs.words.one_of.Tie as tie
-use mathlib.Core.Path.{_≡_, sym, _∙_, ap}
-use mathlib.Core.List.{List}
-use mathlib.Core.Bool.{false}
-use Prim.Native.Nat.{ℕ, _-_, _<_}
+use mathlib.Core.Path.{sym, _∙_}
+use Prim.Native.Nat.{_-_}
 use lib.ListN.{length}
-use Rattle.text.specs.Word.{startsWith}
 use Rattle.text.proofs.WordLaws.{NotSoFar, nonempty, other-width, not-start, among-yes, among-on, among-none}
 use borrow.Author.Needs.{needs}
 use native.Mathlib.Omega.{arith}

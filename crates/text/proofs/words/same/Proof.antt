@@ -1,6 +1,5 @@
 use Rattle.text.proofs.words.same.Statement.{statement}
 use Rattle.text.proofs.words.same.Tie as tie
-use mathlib.Core.Path.{_∙_}
 use Rattle.text.proofs.WordLaws.{same-is}
 use borrow.Author.Needs.{needs}
 

@@ -1,6 +1,5 @@
 use Rattle.text.proofs.words.starts_with.Statement.{statement}
 use Rattle.text.proofs.words.starts_with.Tie as tie
-use lib.ListN.{length}
 use Rattle.text.proofs.WordLaws.{EndedSoFar, too-short, ended-start, ended-on, ended-off, ended-all}
 use native.Mathlib.Omega.{arith}
 

@@ -1,6 +1,6 @@
 use Rattle.vectors.proofs.reading.place_of.Statement.{statement}
 use Rattle.vectors.proofs.reading.place_of.Tie as tie
-use Prim.Native.Nat.{_-_, _≤_, min}
+use Prim.Native.Nat.{_-_, _≤_}
 use lib.ListN.{length}
 use native.Mathlib.Omega.{arith}
 

@@ -1,7 +1,6 @@
 use Rattle.vectors.proofs.reading.unhex.Statement.{statement}
 use Rattle.vectors.proofs.reading.unhex.Tie as tie
 use Prim.Native.Nat.{_-_, _≤_}
-use lib.ListN.{length}
 use borrow.Author.Needs.{needs}
 
 abbrev Inv-loop : tie.InvT-loop

@@ -1,0 +1,57 @@
+-- What the rules come to for a line whose status is known.
+use mathlib.Core.Path.{_≡_, _∙_, refl, sym, ap}
+use mathlib.Core.Bool.{Bool, true, false, not, _&&_, _||_, true≢false}
+use mathlib.Core.List.{List, [], _∷_, map}
+use Prim.Native.Nat.{ℕ}
+use lib.Dec.{eqb}
+use lib.ListN.{replicate, set, take}
+use borrow.Author.Tests.{eqb-true}
+use Rattle.text.specs.Ascii.{ascii}
+use Rattle.text.specs.Word.{same}
+use Rattle.text.proofs.Bools.{and-left}
+use Rattle.cells.specs.Cells.{cell}
+use Rattle.facts.specs.Call.{Call}
+use Rattle.facts.specs.Words.{isAbsent, isCancelled, leiGood}
+use Rattle.facts.specs.Rules.{When, OnNew, OnCxl, OnBoth, Rule, isNew, isCxl, judged, good, andGood, given, at, standingOf, rules, flags}
+
+-- whether a rule is judged for a line that is NEW or not, and CXL or not
+abbrev pub asked : Bool → Bool → When → Bool
+asked new cxl OnNew = new
+asked new cxl OnCxl = cxl
+asked new cxl OnBoth = new || cxl
+
+abbrev pub givenTo : Bool → Bool → Call → Rule → Bool
+givenTo new cxl c r = andGood (c .line) (asked new cxl (r .status)) (r .reads) && (r .violated-by) c
+
+judged-is : (line : List ℕ) (status : When) → judged line status ≡ asked (isNew line) (isCxl line) status
+judged-is line OnNew = refl
+judged-is line OnCxl = refl
+judged-is line OnBoth = refl
+
+module _ (c : Call) {new cxl : Bool} (n : isNew (c .line) ≡ new) (x : isCxl (c .line) ≡ cxl) where
+  with-status : (rs : List Rule) → map (given c) rs ≡ map (givenTo new cxl c) rs
+  with-status [] = refl
+  with-status (r ∷ rs) =
+      λ i. (andGood (c .line) ((judged-is (c .line) (r .status) ∙ (λ j. asked (n j) (x j) (r .status))) i) (r .reads) && (r .violated-by) c)
+      ∷ with-status rs i
+
+-- what is NEW is not CXL
+not-both : (s : List ℕ) → same (ascii "NEW") s ≡ true → same (ascii "CXL") s ≡ false
+unfolding same
+not-both [] e = absurd (true≢false (sym e))
+not-both (b ∷ s) e =
+    let n : b ≡ 78 = eqb-true b 78 (and-left (eqb b 78) _ e) in
+    rw n
+
+pub when-new : (c : Call) → isNew (c .line) ≡ true → (rs : List Rule) → map (givenTo true false c) rs ≡ map (given c) rs
+when-new c n rs = sym (with-status c n (not-both (cell (c .line) 1) n) rs)
+
+-- of a line that is not NEW only 024, 025 and 060 are judged, and they if it is CXL
+pub not-new : (c : Call) → isNew (c .line) ≡ false
+    → take 72 (set (set (set (replicate 137 false)
+    1 (isCxl (c .line) && good (c .line) 4 && good (c .line) 2 && isAbsent (standingOf c)))
+    2 (isCxl (c .line) && good (c .line) 4 && good (c .line) 2 && isCancelled (standingOf c)))
+    6 (isCxl (c .line) && good (c .line) 6 && not (leiGood (c .lei) (at c 6) (c .day))))
+    ≡ flags c
+unfolding flags
+not-new c n = sym (with-status c n refl rules)
