@@ -1,13 +1,12 @@
 -- Each public function's contract determines its answer. A step's is determined as to the bytes of the cell, the place and whether it is
 -- done; where the cell stands in memory no contract says.
-use mathlib.Core.Path.{_≡_}
+use Prim.Native.Nat.{ℕ}
 use mathlib.Core.Bool.{Bool}
 use mathlib.Core.List.{List}
-use Prim.Native.Nat.{ℕ}
-use Rattle.text.proofs.Determined.{Seen, Determined, same-both}
-use Rattle.reader.specs.declared.Reader.{Reader}
-use Rattle.reader.specs.Reading.{begun, Stepped}
-use denote.Ref.{RefT}
+use Rattle.reader.specs.declared.Taken.{Taken}
+use Rattle.text.proofs.Determined.{Seen, Determined, SeenByHand, DeterminedByHand, from-both, same-both}
+use Rattle.reader.proofs.new as new
+use Rattle.reader.proofs.step as step
 use Rattle.reader.proofs.is_done.Kinds as is-done-kinds
 use Rattle.reader.proofs.is_done.Reads as is-done-reads
 use Rattle.reader.proofs.place_after.Kinds as place-after-kinds
@@ -29,11 +28,13 @@ cell-before-determined κs a x y s t = same-both
 pub first-determined : Seen first-kinds.ps first-kinds.r (λ κs x. x .now) first-reads.Post
 first-determined κs a x y s t = same-both
 
--- `new` and `step` are proved by hand, over the equation and the record that their contracts name
-pub new-determined : {line : RefT (List ℕ)} {r r′ : Reader} → r ≡ begun line → r′ ≡ begun line → r ≡ r′
-new-determined = same-both
+-- `new` and `step` are proved by hand
+pub new-determined : DeterminedByHand new.ended (λ M 𝓤 H. new.clauses 𝓤 H)
+new-determined M 𝓤 H A mem run κs a g x y s t = from-both 𝓤 _ _ _ same-both
 
-pub step-determined :
-    {line : List ℕ} {at : ℕ} {cell cell′ : List ℕ} {next next′ : ℕ} {done done′ : Bool}
-    → Stepped line at cell next done → Stepped line at cell′ next′ done′ → (cell ≡ cell′) × ((next ≡ next′) × (done ≡ done′))
-step-determined p q = (same-both (p .hands) (q .hands), (same-both (p .places) (q .places), same-both (p .ends) (q .ends)))
+abbrev shown : Taken → List ℕ × (ℕ × Bool)
+shown t = (t .cell .now, (t .next, t .done))
+
+pub step-determined : SeenByHand step.ended (λ κs t. shown t) (λ M 𝓤 H. step.clauses 𝓤 H)
+step-determined M 𝓤 H A mem run κs a g x y s t =
+    from-both 𝓤 _ _ _ (λ p q i. (same-both (p .hands) (q .hands) i, (same-both (p .places) (q .places) i, same-both (p .ends) (q .ends) i)))
