@@ -15,6 +15,8 @@ use Rattle.reader.proofs.cell_before.Kinds as cell-before-kinds
 use Rattle.reader.proofs.cell_before.Reads as cell-before-reads
 use Rattle.reader.proofs.first.Kinds as first-kinds
 use Rattle.reader.proofs.first.Reads as first-reads
+use Rattle.reader.proofs.step_from.Kinds as step-from-kinds
+use Rattle.reader.proofs.step_from.Reads as step-from-reads
 
 pub is-done-determined : Determined is-done-kinds.ps is-done-kinds.r is-done-reads.Post
 is-done-determined κs a x y s t = same-both
@@ -28,7 +30,10 @@ cell-before-determined κs a x y s t = same-both
 pub first-determined : Seen first-kinds.ps first-kinds.r (λ κs x. x .now) first-reads.Post
 first-determined κs a x y s t = same-both
 
--- `new` and `step` are proved by hand
+pub step-from-determined : Determined step-from-kinds.ps step-from-kinds.r step-from-reads.Post
+step-from-determined κs a x y s t = same-both
+
+-- `new` and `step` have a contract in the program logic alone
 pub new-determined : DeterminedByHand new.ended (λ M 𝓤 H. new.clauses 𝓤 H)
 new-determined M 𝓤 H A mem run κs a g x y s t = from-both 𝓤 _ _ _ same-both
 

@@ -8,6 +8,7 @@ use lib.ListN.{length, drop}
 use denote.Ref.{RefT}
 use Rattle.cells.specs.Cells.{firstCell}
 use Rattle.reader.specs.declared.Reader.{Reader}
+use Rattle.reader.specs.declared.StepFrom.{StepFrom}
 
 -- the place is over the length: there is no cell left
 unfoldable pub isOver : List ℕ → ℕ → Bool
@@ -30,6 +31,10 @@ pub record Stepped (line : List ℕ) (at : ℕ) (cell : List ℕ) (next : ℕ) (
   pub hands : cell ≡ cellFrom line at
   pub places : next ≡ placeAfter line at
   pub ends : done ≡ isOver line at
+
+-- the same in numbers
+abbrev pub stepFrom : List ℕ → ℕ → StepFrom
+stepFrom s at = record { length = length (cellFrom s at); next = placeAfter s at; done = isOver s at }
 
 -- the cells that n steps in turn hand back, up to a step that is done
 unfoldable pub handed : ℕ → List ℕ → ℕ → List (List ℕ)

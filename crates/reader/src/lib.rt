@@ -5,7 +5,7 @@
 ghost use mathlib.Core.Path.{_≡_};
 ghost use Prim.Native.Nat.{_-_};
 ghost use lib.ListN.{take, drop};
-ghost use Rattle.reader.specs.Reading.{begun, cellFrom, placeAfter, isOver, Stepped};
+ghost use Rattle.reader.specs.Reading.{begun, cellFrom, placeAfter, isOver, Stepped, stepFrom};
 
 // A line, and the place in it where the next cell starts.
 pub struct Reader<'a> {
@@ -71,4 +71,22 @@ pub fn first(line: &[u8]) -> &[u8]
 {
     let taken = step(new(line));
     taken.cell
+}
+
+// A step in numbers, for callers that hold no reader: how long the cell at a place is, the next place, and whether none is left.
+pub struct StepFrom {
+    pub length: usize,
+    pub next: usize,
+    pub done: bool,
+}
+
+pub fn step_from(line: &[u8], at: usize) -> StepFrom
+    ensures { λ r. ⌜ r ≡ stepFrom (now (line .entry)) at ⌝ }
+{
+    let taken = step(Reader { line, at });
+    StepFrom {
+        length: taken.cell.len(),
+        next: taken.next,
+        done: taken.done,
+    }
 }

@@ -8,6 +8,7 @@ use crate::lent::of_lists;
 use crate::lent::of_register;
 use crate::lines::of_cells;
 use crate::lines::of_forms;
+use crate::lines::of_reader;
 use crate::reading::UNKNOWN;
 use crate::values::of_amount;
 use crate::values::of_ident;
@@ -42,6 +43,10 @@ pub fn answer(call: &[u8], input: &[u8]) -> u64 {
         return a;
     }
     let a = of_forms(call, input);
+    if a != UNKNOWN {
+        return a;
+    }
+    let a = of_reader(call, input);
     if a != UNKNOWN {
         return a;
     }

@@ -153,3 +153,66 @@ pub fn of_cells(call: &[u8], input: &[u8]) -> u64 {
     }
     UNKNOWN
 }
+
+// The place where a reader of the line stands after some steps.
+fn place_after_steps(line: &[u8], steps: usize) -> usize {
+    let mut at = 0;
+    let mut i = 0;
+    while i < steps {
+        let step = reader::step_from(line, at);
+        at = step.next;
+        i += 1;
+    }
+    at
+}
+
+// How many steps of a reader hand back a cell: no line has more cells than one for each byte, and one.
+fn steps_in(line: &[u8]) -> u64 {
+    let mut n = 0;
+    let mut at = 0;
+    while n <= line.len() {
+        let step = reader::step_from(line, at);
+        if step.done {
+            return n as u64;
+        }
+        at = step.next;
+        n += 1;
+    }
+    UNKNOWN
+}
+
+// Whether the cell that starts at a place is the word, by one step of a reader, which is not done.
+fn is_taken(line: &[u8], at: usize, bytes: &[u8]) -> bool {
+    let step = reader::step_from(line, at);
+    !step.done & text::same(text::head(text::rest(line, at), step.length), bytes)
+}
+
+// What a reader at a place does: the cell that it hands back, where it stands, and whether nothing is left.
+fn after_steps(call: &[u8], line: &[u8], at: usize, bytes: &[u8]) -> u64 {
+    let step = reader::step_from(line, at);
+    if text::same(call, b"cell") {
+        return yes(is_taken(line, at, bytes));
+    }
+    if text::same(call, b"place") {
+        return at as u64;
+    }
+    if text::same(call, b"done") {
+        return yes(step.done & (step.length == 0) & (step.next == at));
+    }
+    UNKNOWN
+}
+
+// steps, first.WORD, and after K steps after.K.cell.WORD, after.K.place and after.K.done on a line.
+pub fn of_reader(call: &[u8], input: &[u8]) -> u64 {
+    if text::same(call, b"steps") {
+        return steps_in(input);
+    }
+    if text::starts_with(call, b"first.") {
+        return yes(text::same(reader::first(input), word(call, 1)));
+    }
+    if text::starts_with(call, b"after.") {
+        let at = place_after_steps(input, number(word(call, 1)) as usize);
+        return after_steps(word(call, 2), input, at, word(call, 3));
+    }
+    UNKNOWN
+}
