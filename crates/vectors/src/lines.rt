@@ -166,11 +166,11 @@ fn place_after_steps(line: &[u8], steps: usize) -> usize {
     at
 }
 
-// How many steps of a reader hand back a cell: no line has more cells than one for each byte, and one.
+// How many steps of a reader hand back a cell: no line has more cells than one for each byte, and one; the step behind them is done.
 fn steps_in(line: &[u8]) -> u64 {
     let mut n = 0;
     let mut at = 0;
-    while n <= line.len() {
+    while n < line.len() + 2 {
         let step = reader::step_from(line, at);
         if step.done {
             return n as u64;
