@@ -10,9 +10,9 @@ use lib.ListN.{length, getD, take, drop, length-append}
 use lib.Seq.{take-at, drop-at, drop-append-add}
 use Rattle.text.specs.Shape.{shape}
 use Rattle.text.proofs.Bools.{and-left, and-right}
-use Rattle.cfi.specs.Rules.{Fault, Blank, Present, PresentNot, Not, UnitsAnd, wrong, Rule, rules, codes, any, matches, broken, violated, cfiFindings, words}
-use Rattle.cfi.specs.Table.{spaced, textOf, faultNumber, faultValue, rowsFrom, Spelled, matchesIn, wrongBy, rowBroken}
-use Rattle.cfi.proofs.WalkLaws.{in-skip, map-ext, foundIn}
+use Rattle.cfi.specs.Rules.{Fault, Blank, Present, PresentNot, Not, UnitsAnd, wrong, Rule, rules, codes, any, matches, broken, violated, matchesCode, cfiFindings, words}
+use Rattle.cfi.specs.Table.{spaced, textOf, faultNumber, faultValue, rowOf, rowsFrom, Spelled, matchesIn, wrongBy, rowMatches, rowBroken}
+use Rattle.cfi.proofs.WalkLaws.{in-skip, map-ext, foundIn, ownMatches, rising}
 
 -- each pattern is of six bytes
 unfoldable pub six : List (List ℕ) → Bool
@@ -47,39 +47,54 @@ wrong-by (PresentNot value) quantity k = simp or-false
 wrong-by (Not value) quantity k = simp or-false
 wrong-by (UnitsAnd value) quantity k = refl
 
-module _ (kinds cfi : List ℕ) where
-  -- a row finds what its rule finds
-  row-is : (front : List ℕ) (r : Rule) (rs : List Rule) → six (r .patterns) ≡ true
-      → rowBroken (front ++ (spaced (r .patterns) ++ textOf rs)) kinds cfi
-      (r .code ∷ r .cell ∷ faultNumber (r .fault) ∷ faultValue (r .fault) ∷ length front ∷ (length front + length (spaced (r .patterns))) ∷ [])
-      ≡ broken kinds cfi r
-  unfolding rowBroken broken
-  row-is front r rs e =
-      let s : List ℕ = spaced (r .patterns) in
-      let n : length front + length s - length front ≡ length s = omega arith in
-      let own : take (length front + length s - length front) (drop (length front) (front ++ (s ++ textOf rs))) ≡ s =
-      (λ j. take (n j) (drop-at front (s ++ textOf rs) (length front) refl j)) ∙ take-at s (textOf rs) (length s) refl in
-      λ i. wrong-by (r .fault) (getD kinds 30 0) (getD kinds (r .cell) 0) i && ((λ j. matchesIn cfi 0 (own j)) ∙ matches-spaced cfi (r .patterns) e) i
+-- a row's patterns are its rule's, whatever patterns stand around them
+row-matches : (cfi front : List ℕ) (r : Rule) (rs : List Rule) → six (r .patterns) ≡ true
+    → rowMatches (front ++ (spaced (r .patterns) ++ textOf rs)) cfi (rowOf (length front) r) ≡ matches (r .patterns) cfi
+row-matches cfi front r rs e =
+    let s : List ℕ = spaced (r .patterns) in
+    let n : length front + length s - length front ≡ length s = omega arith in
+    let own : take (length front + length s - length front) (drop (length front) (front ++ (s ++ textOf rs))) ≡ s =
+    (λ j. take (n j) (drop-at front (s ++ textOf rs) (length front) refl j)) ∙ take-at s (textOf rs) (length s) refl in
+    (λ j. matchesIn cfi 0 (own j)) ∙ matches-spaced cfi (r .patterns) e
 
-  -- the rows find for a code what its rules find, whatever patterns stand in front
+-- a row finds what its rule finds
+row-breaks : (kinds cfi front : List ℕ) (r : Rule) (rs : List Rule) → six (r .patterns) ≡ true
+    → rowBroken (front ++ (spaced (r .patterns) ++ textOf rs)) kinds cfi (rowOf (length front) r) ≡ broken kinds cfi r
+unfolding rowBroken broken
+row-breaks kinds cfi front r rs e =
+    λ i. wrong-by (r .fault) (getD kinds 30 0) (getD kinds (r .cell) 0) i && row-matches cfi front r rs e i
+
+-- what is asked of a row's patterns, and of its rule
+module _ (asked : List ℕ → List ℕ → Bool) (of : Rule → Bool)
+    (same : (front : List ℕ) (r : Rule) (rs : List Rule) → six (r .patterns) ≡ true → asked (front ++ (spaced (r .patterns) ++ textOf rs)) (rowOf (length front) r) ≡ of r) where
+  -- the rows answer for a code what its rules answer, whatever patterns stand in front
   rows-are-rules : (k : ℕ) (front : List ℕ) (rs : List Rule) → allSix rs ≡ true
-      → any (λ row. eqb (getD row 0 0) k && rowBroken (front ++ textOf rs) kinds cfi row) (rowsFrom (length front) rs)
-      ≡ any (λ r. eqb (r .code) k && broken kinds cfi r) rs
+      → any (λ row. eqb (getD row 0 0) k && asked (front ++ textOf rs) row) (rowsFrom (length front) rs) ≡ any (λ r. eqb (r .code) k && of r) rs
   unfolding any rowsFrom textOf allSix
   rows-are-rules k front [] e = refl
   rows-are-rules k front (r ∷ rs) e =
       let s : List ℕ = spaced (r .patterns) in
-      λ i. (eqb (r .code) k && row-is front r rs (and-left (six (r .patterns)) (allSix rs) e) i)
-      || ((λ j. any (λ row. eqb (getD row 0 0) k && rowBroken (sym (append-assoc front s (textOf rs)) j) kinds cfi row) (rowsFrom (sym (length-append front s) j) rs))
+      λ i. (eqb (r .code) k && same front r rs (and-left (six (r .patterns)) (allSix rs) e) i)
+      || ((λ j. any (λ row. eqb (getD row 0 0) k && asked (sym (append-assoc front s (textOf rs)) j) row) (rowsFrom (sym (length-append front s) j) rs))
       ∙ rows-are-rules k (front ++ s) rs (and-right (six (r .patterns)) (allSix rs) e)) i
 
-  pub found-is : {rows : List (List ℕ)} {patterns numbers : List ℕ} → Spelled rows patterns numbers
-      → foundIn rows patterns numbers kinds cfi ≡ cfiFindings kinds cfi
-  unfolding foundIn cfiFindings violated
-  found-is s =
-      (λ j. foundIn (s .rows-are j) (s .patterns-are j) (s .codes-are j) kinds cfi) ∙ map-ext (λ k. rows-are-rules k [] rules rules-six) codes
-
 module _ {rows : List (List ℕ)} {patterns numbers : List ℕ} (s : Spelled rows patterns numbers) where
+  pub found-is : (kinds cfi : List ℕ) → foundIn rows patterns numbers kinds cfi ≡ cfiFindings kinds cfi
+  unfolding foundIn cfiFindings violated
+  found-is kinds cfi =
+      let by-rules = rows-are-rules (λ text. rowBroken text kinds cfi) (broken kinds cfi) (row-breaks kinds cfi) in
+      (λ j. foundIn (s .rows-are j) (s .patterns-are j) (s .codes-are j) kinds cfi) ∙ map-ext (λ k. by-rules k [] rules rules-six) codes
+
+  pub matched-is : (code : ℕ) (cfi : List ℕ) → any (ownMatches code patterns cfi) rows ≡ matchesCode code cfi
+  unfolding matchesCode
+  matched-is code cfi =
+      (λ j. any (ownMatches code (s .patterns-are j) cfi) (s .rows-are j))
+      ∙ rows-are-rules (λ text. rowMatches text cfi) (λ r. matches (r .patterns) cfi) (row-matches cfi) code [] rules rules-six
+
+  pub spelled-rise : rising 0 rows ≡ true
+  unfolding rising rowsFrom rules
+  spelled-rise = ap (rising 0) (s .rows-are)
+
   pub spelled-rows : length rows ≡ 22
   unfolding rowsFrom rules
   spelled-rows = ap length (s .rows-are)

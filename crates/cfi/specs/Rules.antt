@@ -124,6 +124,10 @@ broken kinds cfi r = wrong (r .fault) (getD kinds 30 0) (getD kinds (r .cell) 0)
 unfoldable pub violated : List ℕ → List ℕ → ℕ → Bool
 violated kinds cfi code = any (λ r. eqb (r .code) code && broken kinds cfi r) rules
 
+-- the CFI matches a pattern of one of the code's rules
+unfoldable pub matchesCode : ℕ → List ℕ → Bool
+matchesCode code cfi = any (λ r. eqb (r .code) code && matches (r .patterns) cfi) rules
+
 -- the codes by CFI, rising
 abbrev pub codes : List ℕ
 codes =

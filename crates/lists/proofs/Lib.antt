@@ -2,6 +2,7 @@
 pub mod RowLaws
 pub mod SomeLaws
 pub mod FrameLaws
+pub mod CfiLaws
 mod ScanLaws
 mod PassLaws
 mod Unique

@@ -1,7 +1,8 @@
 -- What is asked of a list, a key and a day.
 use Prim.Native.Nat.{ℕ}
-use mathlib.Core.Bool.{Bool}
+use mathlib.Core.Bool.{Bool, _&&_}
 use mathlib.Core.List.{List}
+use Rattle.cfi.specs.Rules.{violated}
 use Rattle.lists.specs.declared.frame.Mark.{Mark}
 use Rattle.lists.specs.declared.frame.Mark.the-variants.{Lei, Cty, Ccy, Ven, Ins}
 use Rattle.lists.specs.declared.lookups.LeiRows.{LeiRows}
@@ -10,7 +11,7 @@ use Rattle.lists.specs.declared.lookups.VenueRows.{VenueRows}
 use Rattle.lists.specs.declared.lookups.InstrumentRows.{InstrumentRows}
 use Rattle.lists.specs.Table.{keyWidth, rowWidth}
 use Rattle.lists.specs.Rows.{someRow}
-use Rattle.lists.specs.Row.{unlapsed, anyStatus, leiServes, countryOn, currentOn, preEuro, venueOn, listedOn, debtOn, bondOn}
+use Rattle.lists.specs.Row.{unlapsed, anyStatus, leiServes, countryOn, currentOn, preEuro, venueOn, listedOn, cfiOf, cfiOn}
 
 -- some row of the list of this mark with this key passes the test
 abbrev pub someIn : Mark → List ℕ → List ℕ → (List ℕ → Bool) → Bool
@@ -30,7 +31,11 @@ abbrev pub venueRows : List ℕ → List ℕ → ℕ → VenueRows
 venueRows list key day =
     record { kind1 = someIn Ven list key (venueOn 1 day); kind2 = someIn Ven list key (venueOn 2 day); kind3 = someIn Ven list key (venueOn 3 day) }
 
--- on the day: whatever its CFI, D*****, and DB, DC, DT or DN
+-- on the day: whatever its CFI, a CFI of 330, and one of 350
 abbrev pub instrumentRows : List ℕ → List ℕ → ℕ → InstrumentRows
 instrumentRows list key day =
-    record { listed = someIn Ins list key (listedOn day); debt = someIn Ins list key (debtOn day); bond = someIn Ins list key (bondOn day) }
+    record { listed = someIn Ins list key (listedOn day); debt = someIn Ins list key (cfiOn 330 day); bond = someIn Ins list key (cfiOn 350 day) }
+
+-- on the day, and violating the code of the rules by CFI with its own CFI in the place of cell 43, where the cells hold `kinds`
+abbrev pub someViolates : ℕ → List ℕ → List ℕ → List ℕ → ℕ → Bool
+someViolates code kinds list key day = someIn Ins list key (λ row. violated kinds (cfiOf row) code && listedOn day row)

@@ -6,7 +6,7 @@ use mathlib.Core.List.{List}
 use Rattle.lists.specs.declared.frame.Mark.{Mark}
 use Rattle.lists.specs.declared.frame.Mark.the-variants.{Lei, Cty, Ccy, Ven, Ins}
 use Rattle.lists.specs.declared.rows.Answers.{Answers}
-use Rattle.lists.specs.Row.{unlapsed, anyStatus, leiServes, countryOn, currentOn, preEuro, venueOn, listedOn, debtOn, bondOn}
+use Rattle.lists.specs.Row.{unlapsed, anyStatus, leiServes, countryOn, currentOn, preEuro, venueOn, listedOn, cfiOn}
 use Rattle.lists.specs.Lookups.{someIn}
 
 abbrev pub first : Mark → ℕ → List ℕ → Bool
@@ -21,14 +21,14 @@ second Lei day = leiServes anyStatus day
 second Cty day = countryOn day
 second Ccy day = preEuro
 second Ven day = venueOn 2 day
-second Ins day = debtOn day
+second Ins day = cfiOn 330 day
 
 abbrev pub third : Mark → ℕ → List ℕ → Bool
 third Lei day = leiServes anyStatus day
 third Cty day = countryOn day
 third Ccy day = preEuro
 third Ven day = venueOn 3 day
-third Ins day = bondOn day
+third Ins day = cfiOn 350 day
 
 -- the answers of one row, whatever its key
 abbrev pub rowSays : Mark → ℕ → List ℕ → Answers

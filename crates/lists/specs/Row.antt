@@ -4,10 +4,8 @@ use mathlib.Core.Bool.{Bool, _&&_, _||_}
 use mathlib.Core.List.{List}
 use lib.Dec.{leb, eqb}
 use lib.ListN.{getD, take, drop}
-use Rattle.text.specs.Ascii.{ascii}
 use Rattle.text.specs.Number.{littleEndian}
-use Rattle.text.specs.Shape.{shape}
-use Rattle.text.specs.Word.{oneOf}
+use Rattle.cfi.specs.Rules.{matchesCode}
 
 abbrev pub byteAt : ℕ → List ℕ → ℕ
 byteAt at row = getD row at 0
@@ -55,16 +53,6 @@ listedOn day row = inDays 18 day row
 abbrev pub cfiOf : List ℕ → List ℕ
 cfiOf row = take 6 (drop 12 row)
 
--- D*****, where * is any capital letter: a CFI that holds other bytes matches no pattern
-abbrev pub isDebt : List ℕ → Bool
-isDebt cfi = shape (ascii "D*****") cfi
-
--- DB, DC, DT or DN, then four capitals
-abbrev pub isBond : List ℕ → Bool
-isBond cfi = isDebt cfi && oneOf 2 (ascii "DBDCDTDN") (take 2 cfi)
-
-abbrev pub debtOn : ℕ → List ℕ → Bool
-debtOn day row = isDebt (cfiOf row) && listedOn day row
-
-abbrev pub bondOn : ℕ → List ℕ → Bool
-bondOn day row = isBond (cfiOf row) && listedOn day row
+-- the CFI of the row is one for which the paper has the code: a CFI that holds other bytes than capital letters matches no pattern
+abbrev pub cfiOn : ℕ → ℕ → List ℕ → Bool
+cfiOn code day row = matchesCode code (cfiOf row) && listedOn day row

@@ -22,7 +22,7 @@ pub struct VenueRows {
     pub kind3: bool,
 }
 
-// Some row on the day: whatever its CFI, one of D*****, one of DB, DC, DT or DN.
+// Some row on the day: whatever its CFI, one that matches a pattern of 330, one that matches a pattern of 350.
 pub struct InstrumentRows {
     pub listed: bool,
     pub debt: bool,

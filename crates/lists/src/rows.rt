@@ -3,13 +3,11 @@ ghost use mathlib.Core.Path.{_≡_};
 ghost use Prim.Native.Nat.{_≤_};
 ghost use Rattle.lists.specs.Row.{inDays};
 ghost use Rattle.lists.specs.Questions.{rowSays};
+use cfi::matches_code;
 use crate::frame::Mark;
 use text::byte_at;
-use text::head;
 use text::le32;
-use text::one_of;
 use text::part;
-use text::shaped;
 
 // The answers to a list's questions, in the order in which its look-up names them. A list with fewer than three repeats its last, so
 // that all three are true exactly if no further row can change an answer.
@@ -80,17 +78,16 @@ fn venue_says(row: &[u8], day: u32) -> Answers
     }
 }
 
+// Debt and bonds are what 330 and 350 take for such, by the same patterns.
 fn instrument_says(row: &[u8], day: u32) -> Answers
     ensures { λ r. ⌜ r ≡ rowSays Mark.Ins day (now (row .entry)) ⌝ }
 {
     let cfi = part(row, 12, 18);
     let on = in_days(row, 18, day);
-    let debt = shaped(cfi, b"D*****");
-    let bond = debt & one_of(head(cfi, 2), b"DBDCDTDN", 2);
     Answers {
         first: on,
-        second: debt & on,
-        third: bond & on,
+        second: matches_code(330, cfi) & on,
+        third: matches_code(350, cfi) & on,
     }
 }
 
