@@ -2,13 +2,12 @@
 use Prim.Native.Nat.{ℕ}
 use mathlib.Core.Bool.{Bool, not, _&&_, _||_}
 use mathlib.Core.List.{List}
-use lib.Dec.{eqb}
 use Rattle.text.specs.Word.{blank}
 use Rattle.cells.specs.Cells.{cell}
 use Rattle.calendar.specs.declared.moments.Moment.{Moment}
 use Rattle.ident.specs.Party.{allowed7, allowed12}
 use Rattle.ident.specs.declared.parties.Allowed.{Allowed}
-use Rattle.lists.specs.Lookups.{instrumentRows}
+use Rattle.lists.specs.Lookups.{instrumentRows, someViolates}
 use Rattle.cfi.specs.Rules.{cfiFindings}
 use Rattle.facts.specs.declared.entities.LeiFit.{LeiFit}
 use Rattle.facts.specs.declared.entities.EntityFacts.{EntityFacts}
@@ -20,7 +19,7 @@ use Rattle.facts.specs.declared.trades.TradeFacts.{TradeFacts}
 use Rattle.facts.specs.declared.lines.DealFacts.{DealFacts}
 use Rattle.facts.specs.declared.lines.Facts.{Facts}
 use Rattle.facts.specs.Call.{Call}
-use Rattle.facts.specs.Words.{present, says, off, momentOf, isLive, leiGoodUnlapsed, leiGood, leiWrong, countryWrong, kind1, kind2, kind3, partyLeiWrong, partyCountryWrong, partyMicWrong, partyShapeWrong, birthWrong, isLate, isPast, isEntity, currencyWrong, quantityCurrencyWrong, secondCurrency, notBefore, tooOld, heldQuantity, heldPrice}
+use Rattle.facts.specs.Words.{present, says, off, momentOf, isLive, leiGoodUnlapsed, leiGood, leiWrong, countryWrong, kind1, kind2, kind3, partyLeiWrong, partyCountryWrong, partyMicWrong, partyShapeWrong, birthWrong, isLate, isPast, isEntity, currencyWrong, quantityCurrencyWrong, secondCurrency, notBefore, tooOld}
 use Rattle.facts.specs.Rules.{goodCells, at, T, standingOf, holdings}
 
 unfoldable pub leiFit : List ℕ → List ℕ → ℕ → LeiFit
@@ -76,9 +75,9 @@ moneyOf line ccy t =
       strike = currencyWrong ccy (cell line 52) t;
     }
 
--- `quantity` and `price` are what cells 30 and 33 hold
-unfoldable pub tradeOf : List ℕ → List ℕ → List ℕ → ℕ → ℕ → ℕ → TradeFacts
-tradeOf line ven ins quantity price t =
+-- `kinds` is what the cells hold
+unfoldable pub tradeOf : List ℕ → List ℕ → List ℕ → List ℕ → ℕ → TradeFacts
+tradeOf line ven ins kinds t =
     record {
       «no_code» = present (cell line 3) && (off (cell line 36) || kind2 ven (cell line 36) t || kind3 ven (cell line 36) t);
       unknown = not (off (cell line 36)) && not (kind1 ven (cell line 36) t || kind2 ven (cell line 36) t || kind3 ven (cell line 36) t);
@@ -86,8 +85,8 @@ tradeOf line ven ins quantity price t =
       transmitted = says "TRUE" (cell line 25) && not (off (cell line 36));
       «no_branch» = (kind1 ven (cell line 36) t || kind3 ven (cell line 36) t) && blank (cell line 37);
       branch = present (cell line 37) && (off (cell line 36) || kind2 ven (cell line 36) t);
-      «debt_in_units» = instrumentRows ins (cell line 41) t .debt && (eqb quantity 2 && eqb price 4);
-      «bond_without_net» = instrumentRows ins (cell line 41) t .bond && blank (cell line 35);
+      «debt_in_units» = someViolates 330 kinds ins (cell line 41) t;
+      «bond_without_net» = someViolates 350 kinds ins (cell line 41) t;
     }
 
 -- 251, 290 and 570; `entity` says whether one of the parties is the executing entity
@@ -112,6 +111,6 @@ factsOf c =
       time = timeOf (c .line) (momentOf (at c 28)) (c .day) (c .micro);
       deal = dealOf (c .line) (isEntity allowed7 (at c 7) (at c 4) || isEntity allowed7 (at c 16) (at c 4));
       money = moneyOf (c .line) (c .ccy) (T c);
-      trade = tradeOf (c .line) (c .ven) (c .ins) (heldQuantity (at c 30)) (heldPrice (at c 33)) (T c);
+      trade = tradeOf (c .line) (c .ven) (c .ins) (holdings (c .line)) (T c);
       cfi = cfiFindings (holdings (c .line)) (at c 43);
     }

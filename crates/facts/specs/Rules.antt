@@ -2,14 +2,13 @@
 use Prim.Native.Nat.{ℕ}
 use mathlib.Core.Bool.{Bool, false, not, _&&_, _||_}
 use mathlib.Core.List.{List, [], _∷_, _++_, map}
-use lib.Dec.{eqb}
 use lib.ListN.{getD, set, replicate}
 use Rattle.text.specs.Ascii.{ascii}
 use Rattle.text.specs.Word.{blank}
 use Rattle.cells.specs.Cells.{cell}
 use Rattle.forms.specs.Findings.{formFindings}
 use Rattle.ident.specs.Party.{allowed7, allowed12}
-use Rattle.lists.specs.Lookups.{instrumentRows}
+use Rattle.lists.specs.Lookups.{instrumentRows, someViolates}
 use Rattle.register.specs.Pair.{pairBytes}
 use Rattle.register.specs.Rows.{standing}
 use Rattle.register.specs.declared.rows.Standing.{Standing}
@@ -99,15 +98,13 @@ holdings line =
 abbrev pub byCfi : ℕ → Call → Bool
 byCfi code c = violated (holdings (c .line)) (at c 43) code
 
--- by some row of 41 in INS on T, cell 43 not read
+-- the same by some INS row of 41 on T; 43 is not read
+abbrev pub byInstrument : ℕ → Call → Bool
+byInstrument code c = someViolates code (holdings (c .line)) (c .ins) (at c 41) (T c)
+
+-- 41 is in INS on T
 abbrev pub listedOn : Call → Bool
 listedOn c = instrumentRows (c .ins) (at c 41) (T c) .listed
-
-abbrev pub debtOn : Call → Bool
-debtOn c = instrumentRows (c .ins) (at c 41) (T c) .debt
-
-abbrev pub bondOn : Call → Bool
-bondOn c = instrumentRows (c .ins) (at c 41) (T c) .bond
 
 -- 36 on T
 abbrev pub venue1 : Call → Bool
@@ -176,10 +173,10 @@ rules4 =
     rule 290 OnNew (29 ∷ 7 ∷ 16 ∷ 4 ∷ []) (λ c. says "DEAL" (at c 29) && not (isEntity allowed7 (at c 7) (at c 4) || isEntity allowed7 (at c 16) (at c 4)))
     ∷ rule 310 OnNew (31 ∷ 28 ∷ []) (λ c. quantityCurrencyWrong (c .ccy) (at c 31) (T c))
     ∷ rule 330 OnNew (43 ∷ 30 ∷ 33 ∷ []) (byCfi 330)
-    ∷ rule 331 OnNew (41 ∷ 28 ∷ 30 ∷ 33 ∷ []) (λ c. debtOn c && (eqb (heldQuantity (at c 30)) 2 && eqb (heldPrice (at c 33)) 4))
+    ∷ rule 331 OnNew (41 ∷ 28 ∷ 30 ∷ 33 ∷ []) (byInstrument 330)
     ∷ rule 340 OnNew (34 ∷ 28 ∷ []) (λ c. currencyWrong (c .ccy) (at c 34) (T c))
     ∷ rule 350 OnNew (43 ∷ 35 ∷ []) (byCfi 350)
-    ∷ rule 351 OnNew (41 ∷ 28 ∷ 35 ∷ []) (λ c. bondOn c && blank (at c 35))
+    ∷ rule 351 OnNew (41 ∷ 28 ∷ 35 ∷ []) (byInstrument 350)
     ∷ rule 360 OnNew (36 ∷ 28 ∷ []) (λ c. not (off (at c 36)) && not (venue1 c || venue2 c || venue3 c))
     ∷ rule 361 OnNew (36 ∷ 41 ∷ 28 ∷ []) (λ c. says "XXXX" (at c 36) && listedOn c)
     ∷ rule 362 OnNew (25 ∷ 36 ∷ []) (λ c. says "TRUE" (at c 25) && not (off (at c 36)))

@@ -153,7 +153,7 @@ pub fn line_facts<'a, 't>(
         time: time_facts(line, starts, ends, moment, day, micro),
         deal: deal_facts(line, starts, ends, own),
         money: money_facts(line, starts, ends, ccy, t),
-        trade: trade_facts(line, starts, ends, ven, ins, held[30], held[33], t),
+        trade: trade_facts(line, starts, ends, ven, ins, &held, t),
         cfi: cfi::cfi_findings(&held, cells::cell(line, starts, ends, 43)),
     }
 }

@@ -19,26 +19,25 @@ pub struct TradeFacts {
     pub bond_without_net: bool,
 }
 
-// The cells of a trade that the venue's and the instrument's rules read: 3, 25, 35, 36, 37 and 41, with what 30 and 33 hold.
+// The cells of a trade that the venue's and the instrument's rules read: 3, 25, 36, 37 and 41, with what the others hold: 331 is units (2) in 30 and
+// percent (4) in 33, 351 a blank (1) in 35.
 pub fn trade_facts<'a, 't>(
     line: &'a [u8],
     starts: &'t [usize; 65],
     ends: &'t [usize; 65],
     ven: &[u8],
     ins: &[u8],
-    quantity: u8,
-    price: u8,
+    held: &[u8; 66],
     t: u32,
 ) -> TradeFacts
     requires { ⌜ Tabled (now line) (now starts) (now ends) ⌝ }
-    ensures { λ r. ⌜ r ≡ tradeOf (now (line .entry)) (now (ven .entry)) (now (ins .entry)) quantity price t ⌝ }
+    ensures { λ r. ⌜ r ≡ tradeOf (now (line .entry)) (now (ven .entry)) (now (ins .entry)) (now (held .entry)) t ⌝ }
 {
     let c36 = cells::cell(line, starts, ends, 36);
     let venue = lists::venue_rows(ven, c36, t);
     let rows = lists::instrument_rows(ins, cells::cell(line, starts, ends, 41), t);
     let off = is_off(c36);
     let coded = cells::cell(line, starts, ends, 3).len() != 0;
-    let net = cells::cell(line, starts, ends, 35).len() != 0;
     let branch = cells::cell(line, starts, ends, 37).len() != 0;
     TradeFacts {
         no_code: coded & (off | venue.kind2 | venue.kind3),
@@ -47,8 +46,8 @@ pub fn trade_facts<'a, 't>(
         transmitted: text::same(cells::cell(line, starts, ends, 25), b"TRUE") & !off,
         no_branch: (venue.kind1 | venue.kind3) & !branch,
         branch: branch & (off | venue.kind2),
-        debt_in_units: rows.debt & ((quantity == 2) & (price == 4)),
-        bond_without_net: rows.bond & !net,
+        debt_in_units: (held[30] == 2) & (held[33] == 4) & rows.debt,
+        bond_without_net: (held[35] == 1) & rows.bond,
     }
 }
 
