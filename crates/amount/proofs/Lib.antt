@@ -2,4 +2,5 @@
 pub mod DecimalLaws
 pub mod SignLaws
 pub mod Shape
+pub mod Ends
 mod Unique

@@ -2,8 +2,10 @@
 use Rattle.text.proofs.Determined.{Determined, same-both}
 use Rattle.amount.proofs.is_decimal.Kinds as is-decimal-kinds
 use Rattle.amount.proofs.is_decimal.Reads as is-decimal-reads
-use Rattle.amount.proofs.is_signed_decimal.Kinds as is-signed-decimal-kinds
-use Rattle.amount.proofs.is_signed_decimal.Reads as is-signed-decimal-reads
+use Rattle.amount.proofs.parse_signed.Kinds as parse-signed-kinds
+use Rattle.amount.proofs.parse_signed.Reads as parse-signed-reads
+use Rattle.amount.proofs.signed_kind.Kinds as signed-kind-kinds
+use Rattle.amount.proofs.signed_kind.Reads as signed-kind-reads
 use Rattle.amount.proofs.parse_price.Kinds as parse-price-kinds
 use Rattle.amount.proofs.parse_price.Reads as parse-price-reads
 use Rattle.amount.proofs.parse_quantity.Kinds as parse-quantity-kinds
@@ -16,8 +18,11 @@ use Rattle.amount.proofs.quantity_kind.Reads as quantity-kind-reads
 pub is-decimal-determined : Determined is-decimal-kinds.ps is-decimal-kinds.r is-decimal-reads.Post
 is-decimal-determined κs a x y s t = same-both
 
-pub is-signed-decimal-determined : Determined is-signed-decimal-kinds.ps is-signed-decimal-kinds.r is-signed-decimal-reads.Post
-is-signed-decimal-determined κs a x y s t = same-both
+pub parse-signed-determined : Determined parse-signed-kinds.ps parse-signed-kinds.r parse-signed-reads.Post
+parse-signed-determined κs a x y s t = same-both
+
+pub signed-kind-determined : Determined signed-kind-kinds.ps signed-kind-kinds.r signed-kind-reads.Post
+signed-kind-determined κs a x y s t = same-both
 
 pub parse-price-determined : Determined parse-price-kinds.ps parse-price-kinds.r parse-price-reads.Post
 parse-price-determined κs a x y s t = same-both

@@ -7,6 +7,8 @@ use lib.ListN.{drop}
 use Rattle.text.specs.Ascii.{ascii}
 use Rattle.text.specs.Word.{startsWith}
 use Rattle.amount.specs.declared.Decimal.{Decimal}
+use Rattle.amount.specs.declared.Signed.{Signed}
+use Rattle.amount.specs.declared.Signed.the-variants.{Amount, Malformed}
 use Rattle.amount.specs.Decimal.{isDecimal, valueOf}
 
 unfoldable pub behindSign : List ℕ → List ℕ
@@ -21,3 +23,12 @@ negated d = record { mantissa = negℤ (d .mantissa); places = d .places }
 
 unfoldable pub signedValueOf : List ℕ → Decimal
 signedValueOf s = cond (startsWith (ascii "-") s) (negated (valueOf (behindSign s))) (valueOf (behindSign s))
+
+-- cell 38 with f = 5, and what follows MV: with f = 13: D(18, f, 19) behind the sign, with its value
+unfoldable pub signedOf : ℕ → List ℕ → Signed
+signedOf f s = cond (isSigned 18 f 19 s) (Amount (signedValueOf s)) Malformed
+
+-- the kinds, numbered from 2 on as the cell form has but one; 0 is malformed
+abbrev pub signedKind : Signed → ℕ
+signedKind (Amount d) = 2
+signedKind Malformed = 0

@@ -6,8 +6,8 @@ ghost use Prim.Native.Nat.{_≤_};
 ghost use lib.ListN.{length};
 ghost use Rattle.text.specs.Number.{numberOf};
 ghost use Rattle.amount.specs.Decimal.{pointAt, whole, decimals, digitsOf, isDecimal, valueOf, tagged};
-ghost use Rattle.amount.specs.Signed.{behindSign, isSigned, signedValueOf};
-ghost use Rattle.amount.specs.Price.{priceOf, priceKind};
+ghost use Rattle.amount.specs.Signed.{behindSign, signedValueOf, signedOf, signedKind};
+ghost use Rattle.amount.specs.Price.{moneyOf, priceOf, priceKind};
 ghost use Rattle.amount.specs.Quantity.{quantityOf, quantityKind};
 use text::Class;
 
@@ -15,6 +15,12 @@ use text::Class;
 pub struct Decimal {
     pub mantissa: i64,
     pub places: u8,
+}
+
+// What cell 38 holds, and what stands behind MV:.
+pub enum Signed {
+    Amount(Decimal),
+    Malformed,
 }
 
 pub enum Price {
@@ -108,13 +114,6 @@ fn behind_sign(s: &[u8]) -> &[u8]
     s
 }
 
-// D(n, f, m) behind a sign, which is not counted.
-pub fn is_signed_decimal(s: &[u8], n: usize, f: usize, m: usize) -> bool
-    ensures { λ r. ⌜ r ≡ isSigned n f m (now (s .entry)) ⌝ }
-{
-    is_decimal(behind_sign(s), n, f, m)
-}
-
 // Below zero for a minus. Behind it there are at most 18 digits, so the negation is exact at both ends, and -0 is 0.
 fn signed_value_of(s: &[u8]) -> Decimal
     requires { ⌜ length (digitsOf (behindSign (now s))) ≤ 18 ⌝ }
@@ -130,6 +129,16 @@ fn signed_value_of(s: &[u8]) -> Decimal
     d
 }
 
+// D(18, f, 19) that may open with one + or -, which is not counted, read to its value: f is 5 for cell 38 and 13 behind MV:.
+pub fn parse_signed(s: &[u8], f: usize) -> Signed
+    ensures { λ r. ⌜ r ≡ signedOf f (now (s .entry)) ⌝ }
+{
+    if !is_decimal(behind_sign(s), 18, f, 19) {
+        return Signed::Malformed;
+    }
+    Signed::Amount(signed_value_of(s))
+}
+
 // A kind's word with its colon, and a decimal behind it.
 fn tagged(s: &[u8], word: &[u8], n: usize, f: usize, m: usize) -> bool
     ensures { λ r. ⌜ r ≡ tagged (now (word .entry)) n f m (now (s .entry)) ⌝ }
@@ -138,6 +147,15 @@ fn tagged(s: &[u8], word: &[u8], n: usize, f: usize, m: usize) -> bool
         return false;
     }
     is_decimal(text::rest(s, word.len()), n, f, m)
+}
+
+fn money_of(signed: Signed) -> Price
+    ensures { λ r. ⌜ r ≡ moneyOf signed ⌝ }
+{
+    match signed {
+        Signed::Amount(d) => Price::Money(d),
+        Signed::Malformed => Price::Malformed,
+    }
 }
 
 // Cells 33 and 51.
@@ -153,8 +171,8 @@ pub fn parse_price(s: &[u8]) -> Price
     if tagged(s, b"PC:", 11, 10, 19) {
         return Price::Percent(value_of(text::rest(s, 3)));
     }
-    if text::starts_with(s, b"MV:") & is_signed_decimal(text::rest(s, 3), 18, 13, 19) {
-        return Price::Money(signed_value_of(text::rest(s, 3)));
+    if text::starts_with(s, b"MV:") {
+        return money_of(parse_signed(text::rest(s, 3), 13));
     }
     if tagged(s, b"YLD:", 11, 10, 12) {
         return Price::Yield(value_of(text::rest(s, 4)));
@@ -181,7 +199,16 @@ pub fn parse_quantity(s: &[u8]) -> Quantity
     Quantity::Malformed
 }
 
-// The kind of a price and of a quantity, numbered from 2 on as the paper lists them; 0 where it is malformed.
+// The kinds of a signed amount, of a price and of a quantity, numbered from 2 on as the paper lists them; 0 where it is malformed.
+pub fn signed_kind(signed: Signed) -> u8
+    ensures { λ r. ⌜ r ≡ signedKind signed ⌝ }
+{
+    match signed {
+        Signed::Amount(_) => 2,
+        Signed::Malformed => 0,
+    }
+}
+
 pub fn price_kind(price: Price) -> u8
     ensures { λ r. ⌜ r ≡ priceKind price ⌝ }
 {

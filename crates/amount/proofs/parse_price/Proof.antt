@@ -1,19 +1,18 @@
 use Rattle.amount.proofs.parse_price.Statement.{statement}
 use Rattle.amount.proofs.parse_price.Tie as tie
 use mathlib.Core.Path.{_≡_, _∙_, refl, sym, ap}
-use mathlib.Core.Bool.{false, _&&_}
+use mathlib.Core.Bool.{false}
 use mathlib.Core.List.{List}
 use Prim.Native.Nat.{ℕ}
 use lib.Dec.{lit≤}
-use lib.ListN.{drop}
 use Rattle.text.specs.Ascii.{ascii}
 use Rattle.text.specs.Word.{same, startsWith}
-use Rattle.text.proofs.Bools.{and-right, cond-yes, cond-no}
-use Rattle.amount.specs.declared.Price.the-variants.{Percent, Money, Yield, BasisPoints}
+use Rattle.text.proofs.Bools.{cond-yes, cond-no}
+use Rattle.amount.specs.declared.Price.the-variants.{Percent, Yield, BasisPoints}
 use Rattle.amount.specs.Decimal.{tagged, valueOf}
-use Rattle.amount.specs.Signed.{isSigned, signedValueOf}
-use Rattle.amount.specs.Price.{priceOf}
-use Rattle.amount.proofs.DecimalLaws.{few-tagged, few-signed}
+use Rattle.amount.specs.Signed.{signedOf}
+use Rattle.amount.specs.Price.{moneyOf, priceOf}
+use Rattle.amount.proofs.DecimalLaws.{few-tagged}
 use borrow.Author.Needs.{needs}
 
 -- the cell, at the place behind each test that failed
@@ -27,7 +26,7 @@ abbrev S₃ : tie.Else3 → List ℕ
 S₃ c = S₂ (c .before .before .before)
 
 abbrev S₄ : tie.Else4 → List ℕ
-S₄ c = S₃ (c .before .before .before .before .before)
+S₄ c = S₃ (c .before .before .before)
 
 abbrev S₅ : tie.Else5 → List ℕ
 S₅ c = S₄ (c .before .before .before)
@@ -35,12 +34,6 @@ S₅ c = S₄ (c .before .before .before)
 -- what the calls tell of the third test to the sixth
 percent : (c : tie.After-tagged) → c .tagged .result ≡ tagged (ascii "PC:") 11 10 19 (S₂ (c .before .before))
 percent c = c .tagged .ensures
-
-money :
-    (c : tie.After-is-signed-decimal)
-    → (c .before .before .starts-with .result && c .is-signed-decimal .result)
-    ≡ (startsWith (ascii "MV:") (S₃ (c .before .before .before .before)) && isSigned 18 13 19 (drop 3 (S₃ (c .before .before .before .before))))
-money c = λ i. (c .before .before .starts-with .ensures) i && (c .is-signed-decimal .ensures ∙ ap (isSigned 18 13 19) (c .before .rest2 .ensures)) i
 
 yields : (c : tie.After-tagged2) → c .tagged2 .result ≡ tagged (ascii "YLD:") 11 10 12 (S₄ (c .before .before))
 yields c = c .tagged2 .ensures
@@ -57,8 +50,8 @@ not₂ c = sym (c .before .same2 .ensures) ∙ c .if2 .left
 not₃ : (c : tie.Else3) → tagged (ascii "PC:") 11 10 19 (S₃ c) ≡ false
 not₃ c = sym (percent (c .before)) ∙ c .if3 .left
 
-not₄ : (c : tie.Else4) → (startsWith (ascii "MV:") (S₄ c) && isSigned 18 13 19 (drop 3 (S₄ c))) ≡ false
-not₄ c = sym (money (c .before)) ∙ c .if4 .left
+not₄ : (c : tie.Else4) → startsWith (ascii "MV:") (S₄ c) ≡ false
+not₄ c = sym (c .before .starts-with .ensures) ∙ c .if4 .left
 
 not₅ : (c : tie.Else5) → tagged (ascii "YLD:") 11 10 12 (S₅ c) ≡ false
 not₅ c = sym (yields (c .before)) ∙ c .if5 .left
@@ -87,51 +80,49 @@ returns-3 c =
     cond-no _ (not₁ e1) (cond-no _ (not₂ e2)
     (cond-yes _ (sym (percent (c .before .before .before)) ∙ c .before .before .if3 .taken) (ap Percent (c .value-of .ensures ∙ ap valueOf (c .before .rest .ensures)))))
 
-signed-value-of-requires : tie.Need-signed-value-of-requires
-signed-value-of-requires c κs = few-signed 18 13 19 (drop 3 (S₃ (c .before .before .before .before .before .before))) (and-right (startsWith (ascii "MV:") (S₃ (c .before .before .before .before .before .before))) _ (sym (money (c .before .before)) ∙ c .before .if4 .taken)) (c .rest3 .ensures) (lit≤ tt) (lit≤ tt)
-
 returns-4 : tie.Need-returns-4
 unfolding priceOf
 returns-4 c =
-    let e3 = c .before .before .before .before .before .before .before in
+    let e3 = c .before .before .before .before .before .before in
     let e2 = e3 .before .before .before in
     let e1 = e2 .before .before .before in
     cond-no _ (not₁ e1) (cond-no _ (not₂ e2) (cond-no _ (not₃ e3)
-    (cond-yes _ (sym (money (c .before .before .before)) ∙ c .before .before .if4 .taken) (ap Money (c .signed-value-of .ensures ∙ ap signedValueOf (c .before .rest3 .ensures))))))
+    (cond-yes _ (sym (c .before .before .before .before .starts-with .ensures) ∙ c .before .before .before .if4 .taken)
+    (c .money-of .ensures ∙ ap moneyOf (c .before .parse-signed .ensures ∙ ap (signedOf 13) (c .before .before .rest2 .ensures))))))
 
 value-of-requires-2 : tie.Need-value-of-requires-2
-value-of-requires-2 c κs = few-tagged 11 10 12 (ascii "YLD:") (S₄ (c .before .before .before .before)) (sym (yields (c .before .before)) ∙ c .before .if5 .taken) (c .rest4 .ensures) (lit≤ tt) (lit≤ tt)
+value-of-requires-2 c κs = few-tagged 11 10 12 (ascii "YLD:") (S₄ (c .before .before .before .before)) (sym (yields (c .before .before)) ∙ c .before .if5 .taken) (c .rest3 .ensures) (lit≤ tt) (lit≤ tt)
 
 returns-5 : tie.Need-returns-5
 unfolding priceOf
 returns-5 c =
     let e4 = c .before .before .before .before .before in
-    let e3 = e4 .before .before .before .before .before in
+    let e3 = e4 .before .before .before in
     let e2 = e3 .before .before .before in
     let e1 = e2 .before .before .before in
     cond-no _ (not₁ e1) (cond-no _ (not₂ e2) (cond-no _ (not₃ e3) (cond-no _ (not₄ e4)
-    (cond-yes _ (sym (yields (c .before .before .before)) ∙ c .before .before .if5 .taken) (ap Yield (c .value-of2 .ensures ∙ ap valueOf (c .before .rest4 .ensures)))))))
+    (cond-yes _ (sym (yields (c .before .before .before)) ∙ c .before .before .if5 .taken) (ap Yield (c .value-of2 .ensures ∙ ap valueOf (c .before .rest3 .ensures)))))))
 
 value-of-requires-3 : tie.Need-value-of-requires-3
-value-of-requires-3 c κs = few-tagged 18 17 19 (ascii "BP:") (S₅ (c .before .before .before .before)) (sym (basis (c .before .before)) ∙ c .before .if6 .taken) (c .rest5 .ensures) (lit≤ tt) (lit≤ tt)
+value-of-requires-3 c κs = few-tagged 18 17 19 (ascii "BP:") (S₅ (c .before .before .before .before)) (sym (basis (c .before .before)) ∙ c .before .if6 .taken) (c .rest4 .ensures) (lit≤ tt) (lit≤ tt)
 
 returns-6 : tie.Need-returns-6
 unfolding priceOf
 returns-6 c =
     let e5 = c .before .before .before .before .before in
     let e4 = e5 .before .before .before in
-    let e3 = e4 .before .before .before .before .before in
+    let e3 = e4 .before .before .before in
     let e2 = e3 .before .before .before in
     let e1 = e2 .before .before .before in
     cond-no _ (not₁ e1) (cond-no _ (not₂ e2) (cond-no _ (not₃ e3) (cond-no _ (not₄ e4) (cond-no _ (not₅ e5)
-    (cond-yes _ (sym (basis (c .before .before .before)) ∙ c .before .before .if6 .taken) (ap BasisPoints (c .value-of3 .ensures ∙ ap valueOf (c .before .rest5 .ensures))))))))
+    (cond-yes _ (sym (basis (c .before .before .before)) ∙ c .before .before .if6 .taken) (ap BasisPoints (c .value-of3 .ensures ∙ ap valueOf (c .before .rest4 .ensures))))))))
 
 returns-7 : tie.Need-returns-7
 unfolding priceOf
 returns-7 c =
     let e5 = c .before .before .before in
     let e4 = e5 .before .before .before in
-    let e3 = e4 .before .before .before .before .before in
+    let e3 = e4 .before .before .before in
     let e2 = e3 .before .before .before in
     let e1 = e2 .before .before .before in
     cond-no _ (not₁ e1) (cond-no _ (not₂ e2) (cond-no _ (not₃ e3) (cond-no _ (not₄ e4) (cond-no _ (not₅ e5)
@@ -157,7 +148,6 @@ parse-price-spec =
     (λ c κs. search needs)
     (λ c κs. search needs)
     (λ c κs. search needs)
-    signed-value-of-requires
     returns-4
     (λ c. search needs)
     (λ c κs. search needs)
