@@ -12,7 +12,7 @@ use Rattle.text.specs.Word.{startsWith}
 use Rattle.cells.specs.Cells.{cell}
 use Rattle.register.specs.Frame.{used, capacity, framed}
 use Rattle.register.specs.Pair.{pairBytes}
-use Rattle.register.specs.Rows.{rowsIn, look, stateOf, standing}
+use Rattle.register.specs.Rows.{rowsIn, look, stateByte, stateOf, standing}
 use Rattle.register.specs.declared.rows.Standing.{Standing}
 use Rattle.register.specs.declared.rows.Standing.the-variants.{Absent, Live, Cancelled}
 use Rattle.register.proofs.Words.{same-refl}
@@ -37,11 +37,11 @@ stands-alone state line =
 
 abbrev pub registerOf : Standing → List ℕ → List ℕ
 registerOf Absent line = []
-registerOf Live line = oneRow 1 line
-registerOf Cancelled line = oneRow 2 line
+registerOf Live line = oneRow (stateByte Live) line
+registerOf Cancelled line = oneRow (stateByte Cancelled) line
 
 pub stands-there : (as-told : Standing) (line : List ℕ) → as-told ≡ pairStands (registerOf as-told line) line
 unfolding pairStands framed standing
 stands-there Absent line = refl
-stands-there Live line = stands-alone 1 line
-stands-there Cancelled line = stands-alone 2 line
+stands-there Live line = stands-alone (stateByte Live) line
+stands-there Cancelled line = stands-alone (stateByte Cancelled) line

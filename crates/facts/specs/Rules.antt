@@ -4,8 +4,10 @@ use mathlib.Core.Bool.{Bool, false, not, _&&_, _||_}
 use mathlib.Core.List.{List, [], _∷_, _++_, map}
 use lib.ListN.{getD, set, replicate}
 use Rattle.text.specs.Ascii.{ascii}
-use Rattle.text.specs.Word.{blank}
+use Rattle.text.specs.Word.{blank, same}
 use Rattle.cells.specs.Cells.{cell}
+use Rattle.forms.specs.declared.findings.Status.the-variants.{New, Cancellation}
+use Rattle.forms.specs.Forms.{statusWord}
 use Rattle.forms.specs.Findings.{formFindings}
 use Rattle.ident.specs.Party.{allowed7, allowed12}
 use Rattle.lists.specs.Lookups.{instrumentRows, someViolates}
@@ -32,10 +34,10 @@ abbrev pub rule : ℕ → When → List ℕ → (Call → Bool) → Rule
 rule code status reads violated-by = record { code = code; status = status; reads = reads; violated-by = violated-by }
 
 abbrev pub isNew : List ℕ → Bool
-isNew line = says "NEW" (cell line 1)
+isNew line = same (statusWord New) (cell line 1)
 
 abbrev pub isCxl : List ℕ → Bool
-isCxl line = says "CXL" (cell line 1)
+isCxl line = same (statusWord Cancellation) (cell line 1)
 
 abbrev pub judged : List ℕ → When → Bool
 judged line OnNew = isNew line

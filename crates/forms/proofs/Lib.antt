@@ -1,3 +1,4 @@
 -- Laws of the findings, cell by cell.
 pub mod FindingLaws
+pub mod StatusLaws
 mod Unique

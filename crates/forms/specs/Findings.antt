@@ -3,19 +3,18 @@ use Prim.Native.Nat.{ℕ}
 use mathlib.Core.Bool.{Bool, false, cond, not, _||_}
 use mathlib.Core.List.{List, map}
 use lib.Dec.{eqb}
-use Rattle.text.specs.Ascii.{ascii}
 use Rattle.text.specs.Word.{blank, same}
 use Rattle.text.specs.Number.{countFrom}
 use Rattle.cells.specs.Cells.{cell}
 use Rattle.forms.specs.declared.findings.Status.{Status}
 use Rattle.forms.specs.declared.findings.Status.the-variants.{New, Cancellation, Neither}
 use Rattle.forms.specs.declared.tables.Form.{Form}
-use Rattle.forms.specs.Forms.{holds, formOf}
+use Rattle.forms.specs.Forms.{statusWord, holds, formOf}
 use Rattle.forms.specs.Needs.{isOneOf, newNeeds, cxlNeeds}
 
 -- cell 1: NEW, CXL, or neither
 unfoldable pub statusOf : List ℕ → Status
-statusOf s = cond (same (ascii "NEW") s) New (cond (same (ascii "CXL") s) Cancellation Neither)
+statusOf s = cond (same (statusWord New) s) New (cond (same (statusWord Cancellation) s) Cancellation Neither)
 
 -- what is found of a cell of the form, needed or not. Where cell 1 is neither NEW nor CXL the one finding is 1001
 abbrev pub found : Status → Bool → Bool → Bool → Form → List ℕ → Bool

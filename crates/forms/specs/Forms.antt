@@ -16,11 +16,19 @@ use Rattle.ident.specs.Codes.{leiShaped, micShaped, isinRight}
 use Rattle.ident.specs.Party.{allowed7, allowed12, allowed57, allowed59, partyOf, isMalformed}
 use Rattle.ident.specs.declared.parties.Allowed.{Allowed}
 use Rattle.amount.specs.Decimal.{isDecimal}
-use Rattle.amount.specs.Signed.{isSigned}
+use Rattle.amount.specs.Signed.{signedOf, signedKind}
 use Rattle.amount.specs.Price.{priceOf, priceKind}
 use Rattle.amount.specs.Quantity.{quantityOf, quantityKind}
+use Rattle.forms.specs.declared.findings.Status.{Status}
+use Rattle.forms.specs.declared.findings.Status.the-variants.{New, Cancellation, Neither}
 use Rattle.forms.specs.declared.tables.Form.{Form}
 use Rattle.forms.specs.declared.tables.Form.the-variants.{ReportStatus, Reference, Lei, Truth, Counterparty, Decider, Country, Name, Date, Moment, Capacity, Quantity, Currency, Change, Price, Amount, Venue, SignedAmount, ComplexTrade, Isin, InstrumentName, Cfi, SecondCurrency, Multiplier, Swap, Printed, OptionKind, OptionStyle, Delivery, Investor, Executor, Waiver, ShortSale, PostTrade}
+
+-- the paper's word for each status of a line; what is neither has none
+abbrev pub statusWord : Status → List ℕ
+statusWord New = ascii "NEW"
+statusWord Cancellation = ascii "CXL"
+statusWord Neither = []
 
 -- one of the four-letter words of a row
 abbrev pub word : String → List ℕ → Bool
@@ -36,7 +44,7 @@ isParty allowed s = not (isMalformed (partyOf allowed s .identifier))
 
 unfoldable pub holds : Form → List ℕ → Bool
 -- 1: NEW or CXL
-holds ReportStatus s = same (ascii "NEW") s || same (ascii "CXL") s
+holds ReportStatus s = same (statusWord New) s || same (statusWord Cancellation) s
 -- 2, 3: 1 to 52 of A-Z 0-9. 40: 1 to 35 of a-z A-Z 0-9. 36: 4 of A-Z 0-9. 43: 6 of A-Z
 holds Reference s = runOf CapitalDigit 1 52 s
 holds ComplexTrade s = runOf Alphanumeric 1 35 s
@@ -73,7 +81,7 @@ holds PostTrade s = word "BENCACTXLRGSILQDSIZECANCAMNDSDIVPRICDUPLTNCPTPACXFPH" 
 holds Quantity s = not (eqb (quantityKind (quantityOf s)) 0)
 holds Price s = not (eqb (priceKind (priceOf s)) 0)
 holds Amount s = isDecimal 18 5 19 s
-holds SignedAmount s = isSigned 18 5 19 s
+holds SignedAmount s = not (eqb (signedKind (signedOf 5 s)) 0)
 holds Multiplier s = isDecimal 18 17 19 s
 -- 41: 2 letters, 9 of A-Z 0-9, digit, right by the ISO 6166 check
 holds Isin s = isinRight s

@@ -67,7 +67,7 @@ pub fn holds(s: &[u8], form: Form) -> bool
         Form::Quantity => amount::quantity_kind(amount::parse_quantity(s)) != 0,
         Form::Price => amount::price_kind(amount::parse_price(s)) != 0,
         Form::Amount => amount::is_decimal(s, 18, 5, 19),
-        Form::SignedAmount => amount::is_signed_decimal(s, 18, 5, 19),
+        Form::SignedAmount => amount::signed_kind(amount::parse_signed(s, 5)) != 0,
         Form::Multiplier => amount::is_decimal(s, 18, 17, 19),
         Form::Isin => ident::isin_right(s),
         Form::Swap => is_swap(s),

@@ -14,11 +14,12 @@ use Rattle.text.specs.Word.{same}
 use Rattle.text.specs.Number.{littleEndian}
 use Rattle.text.proofs.Bools.{by-test, and-left, and-right}
 use Rattle.register.specs.Frame.{width, place, used, capacity, framed, full, isUsed}
-use Rattle.register.specs.Rows.{rowIn, rowsIn, rowsOf, ownFrom, firstRow}
+use Rattle.register.specs.Rows.{rowIn, rowsIn, rowsOf, stateByte, ownFrom, firstRow}
 use Rattle.register.specs.Table.{putRow}
 use Rattle.register.specs.Written.{littleBytes, restated, appended, put, setCancelled}
 use Rattle.register.specs.declared.rows.Found.{Found}
 use Rattle.register.specs.declared.rows.Found.the-variants.{At, Nowhere}
+use Rattle.register.specs.declared.rows.Standing.the-variants.{Cancelled}
 use Rattle.register.proofs.Stores.{take-sets, drop-sets-past, drop-sets-add, sets-front, drop-take}
 use Rattle.register.proofs.Words.{little-head, little-read}
 use Rattle.register.proofs.FrameLaws.{Framed, framed-is, is-framed, framed-kept, capacity-kept, capacity-small, row-within, rows-within}
@@ -215,7 +216,7 @@ module _ (version n : ℕ) (register : List ℕ) where
 -- cancelling a pair that was found puts its row
 pub cancelled-put :
     (version n : ℕ) (stamp register pair : List ℕ) (found : Found) → (found ≡ Nowhere → ⊥)
-    → setCancelled version n stamp register found ≡ put version n register found pair (2 ∷ stamp)
+    → setCancelled version n stamp register found ≡ put version n register found pair (stateByte Cancelled ∷ stamp)
 unfolding setCancelled put
 cancelled-put version n stamp register pair Nowhere h = absurd (h refl)
 cancelled-put version n stamp register pair (At k) h = refl

@@ -2,6 +2,7 @@
 use mathlib.Core.Path.{_≡_, _∙_, refl, sym, ap, subst}
 use mathlib.Core.Bool.{Bool, true, false}
 use mathlib.Core.List.{List, [], _∷_}
+use mathlib.Core.Option.{some}
 use Prim.Native.Nat.{ℕ, zero, suc, _+_, _*_, _-_, _≤_, _<_}
 use native.Mathlib.Nat.{suc-mul, zero-mul, add-zero}
 use native.Mathlib.Numerals.{add-one}
@@ -13,7 +14,7 @@ use Rattle.text.specs.Word.{startsWith, same}
 use lib.Dec.{ltb}
 use Rattle.text.proofs.Bools.{by-test, and-left, and-right}
 use Rattle.register.specs.Frame.{width, place, used, framed, isUsed}
-use Rattle.register.specs.Rows.{Row, rowsIn, rowsOf, ownFrom, look, stateOf, standsAs, firstRow, standing, standingAt}
+use Rattle.register.specs.Rows.{Row, rowsIn, rowsOf, rowNumber, ownFrom, look, stateOf, standsAs, firstRow, standing, standingAt}
 use Rattle.register.specs.declared.rows.Found.{Found}
 use Rattle.register.specs.declared.rows.Found.the-variants.{At, Nowhere}
 use Rattle.register.specs.declared.rows.Standing.the-variants.{Absent, Live, Cancelled}
@@ -44,6 +45,28 @@ first-at i j (row ∷ rows) pair h =
     (λ t.
     let (k, e, at) = first-at (i + 1) j rows pair (rw t at h) in
     (suc k, omega arith, (t, at)))
+
+pub at-first : (i k : ℕ) (rows : List Row) (pair : List ℕ) → FirstAt pair rows k → ownFrom i rows pair ≡ At (i + k)
+unfolding ownFrom
+at-first i k [] pair h = absurd h
+at-first i zero (row ∷ rows) pair h = rw (h, add-zero i)
+at-first i (suc k) (row ∷ rows) pair h =
+    let e : i + 1 + k ≡ i + suc k = omega arith in
+    rw (h .0) (at-first (i + 1) k rows pair (h .1) ∙ ap At e)
+
+-- the number found is k exactly if row k is the pair's, and none before it
+module _ (version n : ℕ) (register pair : List ℕ) (t : framed version n register ≡ true) (k : ℕ) where
+  pub number-first : rowNumber (firstRow version n register pair) ≡ some k → FirstAt pair (rowsOf n register) k
+  unfolding firstRow
+  number-first h = go (ownFrom 0 (rowsOf n register) pair) refl (rw t at h)
+    where
+      go : (found : Found) → ownFrom 0 (rowsOf n register) pair ≡ found → rowNumber found ≡ some k → FirstAt pair (rowsOf n register) k
+      go (At j) e h = let z : j ≡ k = cc in let (i, same, there) = first-at 0 j (rowsOf n register) pair e in let l : k ≡ i = omega (arith, z, same) in rw l there
+      go Nowhere e h = let z : _≡_ {A = ℕ} 0 1 = cc in absurd (omega arith)
+
+  pub first-number : FirstAt pair (rowsOf n register) k → rowNumber (firstRow version n register pair) ≡ some k
+  unfolding firstRow
+  first-number h = let e : 0 + k ≡ k = omega arith in rw t (ap rowNumber (at-first 0 k (rowsOf n register) pair h) ∙ ap some e)
 
 -- the first row of a pair is one of the rows, and what is kept of the pair stands there
 pub first-within : (n k m : ℕ) (s pair : List ℕ) → FirstAt pair (rowsIn n m s) k → k < m

@@ -2,6 +2,7 @@
 use Prim.Native.Nat.{ℕ, zero, suc, _+_}
 use mathlib.Core.Bool.{cond}
 use mathlib.Core.List.{List, [], _∷_}
+use mathlib.Core.Option.{Option, none, some}
 use lib.Dec.{eqb}
 use lib.ListN.{take, drop, getD}
 use Rattle.text.specs.Word.{same}
@@ -29,6 +30,11 @@ rowsIn n (suc k) s = rowIn n s ∷ rowsIn n k (drop (width n) s)
 abbrev pub rowsOf : ℕ → List ℕ → List Row
 rowsOf n register = rowsIn n (used register) (drop 9 register)
 
+-- the number of the row that was found, counted from 0; none where there is no such row
+abbrev pub rowNumber : Found → Option ℕ
+rowNumber (At k) = some k
+rowNumber Nowhere = none
+
 -- the first row that is the pair's, where the first of the rows has number i
 unfoldable pub ownFrom : ℕ → List Row → List ℕ → Found
 ownFrom i [] pair = Nowhere
@@ -39,9 +45,15 @@ unfoldable pub look : List Row → List ℕ → List ℕ
 look [] pair = []
 look (row ∷ rows) pair = cond (same pair (row .key)) (row .value) (look rows pair)
 
+-- the state of a row whose pair stands so: 1 live, and 2 is what cancelling writes; an absent pair has no row, and 0 is written nowhere
+abbrev pub stateByte : Standing → ℕ
+stateByte Absent = 0
+stateByte Live = 1
+stateByte Cancelled = 2
+
 -- 1 live, else cancelled
 abbrev pub stateOf : ℕ → Standing
-stateOf state = cond (eqb state 1) Live Cancelled
+stateOf state = cond (eqb state (stateByte Live)) Live Cancelled
 
 abbrev pub standsAs : List ℕ → Standing
 standsAs [] = Absent
@@ -54,8 +66,11 @@ firstRow version n register pair = cond (framed version n register) (ownFrom 0 (
 unfoldable pub standing : (version n : ℕ) → List ℕ → List ℕ → Standing
 standing version n register pair = cond (framed version n register) (standsAs (look (rowsOf n register) pair)) Absent
 
--- by the state of the used row where it was found
+-- by the state of the used row of that number
+abbrev pub standingIn : (version n : ℕ) → List ℕ → Option ℕ → Standing
+standingIn version n register none = Absent
+standingIn version n register (some k) = cond (isUsed version n register k) (stateOf (getD register (place n k + 73) 0)) Absent
+
+-- by the row where it was found
 unfoldable pub standingAt : (version n : ℕ) → List ℕ → Found → Standing
-standingAt version n register Nowhere = Absent
-standingAt version n register (At k) =
-    cond (isUsed version n register k) (stateOf (getD register (place n k + 73) 0)) Absent
+standingAt version n register found = standingIn version n register (rowNumber found)

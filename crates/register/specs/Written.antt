@@ -5,8 +5,10 @@ use mathlib.Core.Bool.{cond, not, _&&_}
 use mathlib.Core.List.{List, [], _∷_, _++_}
 use lib.Seq.{sets}
 use Rattle.register.specs.Frame.{place, used, framed, full, isUsed}
+use Rattle.register.specs.Rows.{stateByte}
 use Rattle.register.specs.declared.rows.Found.{Found}
 use Rattle.register.specs.declared.rows.Found.the-variants.{At, Nowhere}
+use Rattle.register.specs.declared.rows.Standing.the-variants.{Live, Cancelled}
 
 -- k bytes that write the number m, least first
 abbrev pub littleBytes : ℕ → ℕ → List ℕ
@@ -31,11 +33,11 @@ unfoldable pub put : (version n : ℕ) → List ℕ → Found → List ℕ → L
 put version n register (At k) pair value = restated version n register k value
 put version n register Nowhere pair value = appended version n register pair value
 
--- the pair is set live: state 1, and what stands behind the state
+-- the pair is set live: its state, and what stands behind the state
 abbrev pub setLive : (version n : ℕ) → List ℕ → List ℕ → Found → List ℕ → List ℕ
-setLive version n stamp register found pair = put version n register found pair (1 ∷ stamp)
+setLive version n stamp register found pair = put version n register found pair (stateByte Live ∷ stamp)
 
--- the pair is set cancelled: cancelling writes 2
+-- the pair is set cancelled, if it has a row
 unfoldable pub setCancelled : (version n : ℕ) → List ℕ → List ℕ → Found → List ℕ
-setCancelled version n stamp register (At k) = restated version n register k (2 ∷ stamp)
+setCancelled version n stamp register (At k) = restated version n register k (stateByte Cancelled ∷ stamp)
 setCancelled version n stamp register Nowhere = register

@@ -1,15 +1,11 @@
 -- What the rules come to for a line whose status is known.
 use mathlib.Core.Path.{_≡_, _∙_, refl, sym, ap}
-use mathlib.Core.Bool.{Bool, true, false, not, _&&_, _||_, true≢false}
+use mathlib.Core.Bool.{Bool, true, false, not, _&&_, _||_}
 use mathlib.Core.List.{List, [], _∷_, map}
 use Prim.Native.Nat.{ℕ}
-use lib.Dec.{eqb}
 use lib.ListN.{replicate, set, take}
-use borrow.Author.Tests.{eqb-true}
-use Rattle.text.specs.Ascii.{ascii}
-use Rattle.text.specs.Word.{same}
-use Rattle.text.proofs.Bools.{and-left}
 use Rattle.cells.specs.Cells.{cell}
+use Rattle.forms.proofs.StatusLaws.{not-both}
 use Rattle.facts.specs.Call.{Call}
 use Rattle.facts.specs.Words.{isAbsent, isCancelled, leiGood}
 use Rattle.facts.specs.Rules.{When, OnNew, OnCxl, OnBoth, Rule, isNew, isCxl, judged, good, andGood, given, at, standingOf, rules, flags}
@@ -34,14 +30,6 @@ module _ (c : Call) {new cxl : Bool} (n : isNew (c .line) ≡ new) (x : isCxl (c
   with-status (r ∷ rs) =
       λ i. (andGood (c .line) ((judged-is (c .line) (r .status) ∙ (λ j. asked (n j) (x j) (r .status))) i) (r .reads) && (r .violated-by) c)
       ∷ with-status rs i
-
--- what is NEW is not CXL
-not-both : (s : List ℕ) → same (ascii "NEW") s ≡ true → same (ascii "CXL") s ≡ false
-unfolding same
-not-both [] e = absurd (true≢false (sym e))
-not-both (b ∷ s) e =
-    let n : b ≡ 78 = eqb-true b 78 (and-left (eqb b 78) _ e) in
-    rw n
 
 pub when-new : (c : Call) → isNew (c .line) ≡ true → (rs : List Rule) → map (givenTo true false c) rs ≡ map (given c) rs
 when-new c n rs = sym (with-status c n (not-both (cell (c .line) 1) n) rs)

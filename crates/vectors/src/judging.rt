@@ -31,8 +31,12 @@ fn small(s: &[u8]) -> u8 {
     (text::number_in(s) % 256) as u8
 }
 
-// cfi.USUAL.CELL.KIND on a CFI: every cell is of the usual kind but one.
+// cfi.USUAL.CELL.KIND on a CFI: every cell is of the usual kind but one; matches.CODE on a CFI.
 pub fn of_cfi(call: &[u8], input: &[u8]) -> u64 {
+    if text::starts_with(call, b"matches.") {
+        let code = (text::number_in(word(call, 1)) % 65536) as u16;
+        return yes(cfi::matches_code(code, input));
+    }
     if !text::starts_with(call, b"cfi.") {
         return UNKNOWN;
     }

@@ -6,6 +6,7 @@ use crate::reading::yes;
 use amount::Decimal;
 use amount::Price;
 use amount::Quantity;
+use amount::Signed;
 use ident::Allowed;
 use ident::Identifier;
 use ident::Party;
@@ -114,6 +115,13 @@ fn price_decimal(price: Price) -> Decimal {
     }
 }
 
+fn signed_decimal(signed: Signed) -> Decimal {
+    match signed {
+        Signed::Amount(d) => d,
+        Signed::Malformed => nothing(),
+    }
+}
+
 fn quantity_decimal(quantity: Quantity) -> Decimal {
     match quantity {
         Quantity::Units(d) => d,
@@ -165,6 +173,21 @@ fn of_quantity(call: &[u8], input: &[u8]) -> u64 {
     of_price(call, input)
 }
 
+// signed_18_5_19, signed_is.NUMBER and signed_places on cell 38.
+fn of_signed(call: &[u8], input: &[u8]) -> u64 {
+    let signed = amount::parse_signed(input, 5);
+    if text::same(call, b"signed_18_5_19") {
+        return yes(amount::signed_kind(signed) != 0);
+    }
+    if text::starts_with(call, b"signed_is.") {
+        return yes(is_mantissa(signed_decimal(signed), text::rest(call, 10)));
+    }
+    if text::same(call, b"signed_places") {
+        return signed_decimal(signed).places as u64;
+    }
+    of_quantity(call, input)
+}
+
 pub fn of_amount(call: &[u8], input: &[u8]) -> u64 {
     if text::same(call, b"decimal_18_17_19") {
         return yes(amount::is_decimal(input, 18, 17, 19));
@@ -172,8 +195,5 @@ pub fn of_amount(call: &[u8], input: &[u8]) -> u64 {
     if text::same(call, b"decimal_18_5_19") {
         return yes(amount::is_decimal(input, 18, 5, 19));
     }
-    if text::same(call, b"signed_18_5_19") {
-        return yes(amount::is_signed_decimal(input, 18, 5, 19));
-    }
-    of_quantity(call, input)
+    of_signed(call, input)
 }

@@ -5,6 +5,7 @@ use mathlib.Core.Bool.{not, _||_}
 use lib.Dec.{eqb}
 use Rattle.calendar.specs.Dates.{isDate}
 use Rattle.calendar.specs.Moments.{isWhen}
+use Rattle.amount.specs.Signed.{signedKind}
 use Rattle.amount.specs.Price.{priceKind}
 use Rattle.amount.specs.Quantity.{quantityKind}
 use Rattle.forms.specs.Forms.{isParty, holds}
@@ -128,7 +129,7 @@ returns-29 c = rw (c .before .enum-told29 .given .1) (c .is-decimal .ensures)
 
 returns-30 : tie.Need-returns-30
 unfolding holds
-returns-30 c = rw (c .before .enum-told30 .given .1) (c .is-signed-decimal .ensures)
+returns-30 c = rw (c .before .before .enum-told30 .given .1) (ap (λ k. not (eqb k 0)) (c .signed-kind .ensures ∙ ap signedKind (c .before .parse-signed .ensures)))
 
 returns-31 : tie.Need-returns-31
 unfolding holds
@@ -231,6 +232,7 @@ holds-spec =
     (λ c. search needs)
     (λ c κs. search needs)
     (λ c. search needs)
+    (λ c κs. search needs)
     (λ c κs. search needs)
     (λ c. search needs)
     (λ c κs. search needs)
