@@ -39,7 +39,7 @@ keep-none buffer kept =
           rw (append-nil, same, take-all (length buffer) (take kept buffer) (rw length-take (omega arith))) (sym (take-append-drop kept buffer));
     }
 
-take-again : (r : ℕ) (xs ys : List ℕ) → take r (take r xs ++ ys) ≡ take r (xs ++ ys)
+pub take-again : (r : ℕ) (xs ys : List ℕ) → take r (take r xs ++ ys) ≡ take r (xs ++ ys)
 take-again zero xs ys = refl
 take-again (suc r) [] ys = refl
 take-again (suc r) (x ∷ xs) ys = rw (take-again r xs ys)

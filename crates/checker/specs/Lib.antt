@@ -1,4 +1,8 @@
--- The words of the program: the setting that it judges in, the end of a line, what is printed.
+-- The words of the program: the setting that it judges in, the lines of an input, what is printed for a line and for the whole
+-- input; and, for the functions inside, where it stands between two chunks.
 pub mod Setting
 pub mod Bare
+pub mod Lines
 pub mod Printed
+pub mod Program
+pub mod Progress

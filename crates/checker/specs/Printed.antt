@@ -24,11 +24,15 @@ spaced (n ∷ ns) = (32 ∷ decimal n) ++ spaced ns
 unfoldable pub printed : ℕ → ℕ → ℕ → List ℕ → List ℕ
 printed number answer count codes = decimal number ++ (spaced (answer ∷ count ∷ codes) ++ (10 ∷ []))
 
+-- what is printed for an outcome
+abbrev pub answerTo : ℕ → Outcome → List ℕ
+answerTo number o = printed number (o .verdict .answer) (o .verdict .count) (o .listed)
+
 -- what `printed` takes at most: 140 numbers of up to 20 digits, each but the first behind a space, and LF
 abbrev pub longest : ℕ
 longest = 2940
 
 -- The outcome of a line stands printed in the first n bytes of a buffer that has room for the longest, and its register is kept.
 pub record Answered (number : ℕ) (o : Outcome) (before after : List ℕ) (n : ℕ) (register : List ℕ) : Type 0 where
-  pub prints : longest ≤ length before → take n after ≡ printed number (o .verdict .answer) (o .verdict .count) (o .listed)
+  pub prints : longest ≤ length before → take n after ≡ answerTo number o
   pub keeps : register ≡ o .register

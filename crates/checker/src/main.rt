@@ -1,29 +1,27 @@
 // The program: judges standard input line by line over empty lists, and prints an answer for each line.
 //
-// What is read and written no contract can say; what is printed for a line is proved of `answer`.
+// What is read and written no contract can say. What is handed to the write is proved, whatever chunks the input comes in:
+// `advance` takes a chunk up to the end of a line, `finish` the line that has begun where the input ends, and
+// proofs/Program.antt has the theorem over both. The functions below them call read and write, and carry on what these leave.
 ghost use mathlib.Core.Path.{_≡_};
-ghost use Prim.Native.Nat.{_+_, min};
-ghost use Rattle.judge.specs.Outcome.{outcome};
-ghost use Rattle.checker.specs.Setting.{emptyRegister, called};
+ghost use mathlib.Core.Bool.{true, false};
+ghost use lib.ListN.{length, take};
+ghost use Rattle.checker.specs.Setting.{emptyRegister};
 ghost use Rattle.checker.specs.Printed.{Answered};
+ghost use Rattle.checker.specs.Program.{judged};
+ghost use Rattle.checker.specs.Progress.{held, start, after, lastAnswer, room, raised, Told, Roomy, Advanced, Reached};
 
 mod lines;
 mod print;
 
-use buffer::keep;
+use buffer::keep_all;
 use libc::STDERR_FILENO;
 use libc::STDIN_FILENO;
 use libc::STDOUT_FILENO;
 use lines::bare;
+use lines::line_end;
 use print::keep_answer;
 use print::listed;
-
-// Between two reads: how many bytes of the line are kept, the line's number, and whether there is nothing more to read.
-struct Place {
-    kept: usize,
-    number: u64,
-    ended: bool,
-}
 
 // Mark TRN, version 1, no row used, room for 4 rows of 74 bytes.
 fn empty_register() -> [u8; 305]
@@ -39,7 +37,7 @@ fn empty_register() -> [u8; 305]
 
 // Judges a line and puts what is printed for it at the start of `out`.
 fn answer(line: &[u8], register: &mut [u8], number: u64, out: &mut [u8]) -> usize
-    ensures { λ r. ⌜ Answered number (outcome (called (now (line .entry)) (now (register .entry))) 137) (now (out .entry)) (now (out .exit)) r (now (register .exit)) ⌝ }
+    ensures { λ r. ⌜ Answered number (judged (now (line .entry)) (now (register .entry))) (now (out .entry)) (now (out .exit)) r (now (register .exit)) ⌝ }
 {
     let mut findings = [0u16; 137];
     let verdict = judge::judge(
@@ -58,17 +56,18 @@ fn answer(line: &[u8], register: &mut [u8], number: u64, out: &mut [u8]) -> usiz
     keep_answer(out, number, verdict.answer, count, listed(&findings, count))
 }
 
-// 140 numbers of up to 20 digits, each but the first behind a space, and LF: no answer is longer.
-const LONGEST: usize = 2940;
-
-fn report(line: &[u8], register: &mut [u8], number: u64) -> bool {
-    let mut out = [0u8; LONGEST];
-    let n = answer(line, register, number, &mut out);
-    io::write_all(STDOUT_FILENO, text::head(&out, n))
+// Line one is skipped.
+fn tell(line: &[u8], register: &mut [u8], number: u64, out: &mut [u8]) -> usize
+    ensures { λ r. ⌜ Told number (now (line .entry)) (now (register .entry)) (now (out .entry)) (now (out .exit)) r (now (register .exit)) ⌝ }
+{
+    if number <= 1 {
+        return 0;
+    }
+    answer(line, register, number, out)
 }
 
 fn one_more(n: u64) -> u64
-    ensures { λ r. ⌜ r ≡ min (n + 1) 18446744073709551615 ⌝ }
+    ensures { λ r. ⌜ r ≡ raised n ⌝ }
 {
     if n < 18446744073709551615 {
         return n + 1;
@@ -76,67 +75,122 @@ fn one_more(n: u64) -> u64
     n
 }
 
+// What a turn took of a chunk and put at the start of `out`, and how many bytes of the line are kept behind it, and its number.
+struct Turn {
+    used: usize,
+    written: usize,
+    kept: usize,
+    number: u64,
+}
+
+// A turn: takes a chunk up to the first LF, which ends the line, or keeps all of it.
+fn advance(
+    chunk: &[u8],
+    line: &mut [u8],
+    register: &mut [u8],
+    kept: usize,
+    number: u64,
+    out: &mut [u8],
+) -> Turn
+    requires { ⌜ Roomy (now line) (now out) ⌝ }
+    ensures { λ r. ⌜ Advanced (held (now (line .entry)) kept number (now (register .entry))) (now (chunk .entry)) (r .used) (held (now (line .exit)) (r .kept) (r .number) (now (register .exit))) (take (r .written) (now (out .exit))) ⌝ }
+{
+    let end = line_end(chunk);
+    let begun = keep_all(line, kept, text::head(chunk, end));
+    if end == chunk.len() {
+        return Turn {
+            used: end,
+            written: 0,
+            kept: begun,
+            number,
+        };
+    }
+    let written = tell(bare(text::head(line, begun)), register, number, out);
+    Turn {
+        used: end + 1,
+        written,
+        kept: 0,
+        number: one_more(number),
+    }
+}
+
+// At the end of the input: a last line without LF is a line. What is handed in is where some bytes have led from the start.
+fn finish(line: &[u8], register: &mut [u8], kept: usize, number: u64, out: &mut [u8]) -> usize
+    requires { ⌜ Roomy (now line) (now out) ⌝ }
+    requires { ⌜ Reached start (held (now line) kept number (now register)) ⌝ }
+    ensures { λ r. ⌜ take r (now (out .exit)) ≡ lastAnswer (held (now (line .entry)) kept number (now (register .entry))) ⌝ }
+{
+    if 0 < kept {
+        return tell(text::head(line, kept), register, number, out);
+    }
+    0
+}
+
+// Between two reads: how many bytes of the line are kept, the line's number, whether there is nothing more to read, and whether a
+// call failed.
+struct Place {
+    kept: usize,
+    number: u64,
+    ended: bool,
+    failed: bool,
+}
+
 // A call that failed ends the run, and the line that it broke off is not judged.
-fn broken_off(place: Place, message: &[u8]) -> Place {
+fn broken_off(number: u64, message: &[u8]) -> Place
+    ensures { λ r. ⌜ r .failed ≡ true ⌝ }
+{
     io::write_all(STDERR_FILENO, message);
     Place {
         kept: 0,
-        number: place.number,
-        ended: true,
+        number,
+        ended: false,
+        failed: true,
     }
 }
 
-fn next_line(place: Place) -> Place {
-    Place {
-        kept: 0,
-        number: one_more(place.number),
-        ended: place.ended,
-    }
-}
+// 140 numbers of up to 20 digits, each but the first behind a space, and LF: no answer is longer.
+const LONGEST: usize = 2940;
 
-// Line one is skipped.
-fn report_line(line: &[u8], register: &mut [u8], place: Place) -> Place {
-    if place.number <= 1 {
-        return next_line(place);
-    }
-    if report(line, register, place.number) {
-        return next_line(place);
-    }
-    broken_off(place, b"checker: an answer could not be written\n")
-}
-
-fn take_byte(b: u8, line: &mut [u8], register: &mut [u8], place: Place) -> Place {
-    if b == b'\n' {
-        return report_line(bare(text::head(line, place.kept)), register, place);
+fn take_chunk(chunk: &[u8], line: &mut [u8], register: &mut [u8], place: Place) -> Place
+    requires { ⌜ length (now line) ≡ room ⌝ }
+    ensures { λ r. ⌜ (r .failed ≡ false → held (now (line .exit)) (r .kept) (r .number) (now (register .exit)) ≡ after (held (now (line .entry)) (place .kept) (place .number) (now (register .entry))) (now (chunk .entry))) ⌝ }
+{
+    let mut out = [0u8; LONGEST];
+    let mut kept = place.kept;
+    let mut number = place.number;
+    let mut at = 0;
+    while at < chunk.len() {
+        let turn = advance(text::rest(chunk, at), line, register, kept, number, &mut out);
+        if !io::write_all(STDOUT_FILENO, text::head(&out, turn.written)) {
+            return broken_off(number, b"checker: an answer could not be written\n");
+        }
+        kept = turn.kept;
+        number = turn.number;
+        at += turn.used;
     }
     Place {
-        kept: keep(line, place.kept, b),
-        number: place.number,
-        ended: place.ended,
+        kept,
+        number,
+        ended: false,
+        failed: false,
     }
 }
 
-fn take_chunk(chunk: &[u8], line: &mut [u8], register: &mut [u8], begun: Place) -> Place {
-    let mut place = begun;
-    let mut i = 0;
-    while i < chunk.len() && !place.ended {
-        place = take_byte(chunk[i], line, register, place);
-        i += 1;
-    }
-    place
-}
-
-fn read_some(line: &mut [u8], register: &mut [u8], place: Place) -> Place {
+fn read_some(line: &mut [u8], register: &mut [u8], place: Place) -> Place
+    requires { ⌜ length (now line) ≡ room ⌝ }
+    ensures { λ r. ⌜ (r .failed ≡ false → Reached (held (now (line .entry)) (place .kept) (place .number) (now (register .entry))) (held (now (line .exit)) (r .kept) (r .number) (now (register .exit)))) ⌝ }
+{
     let mut chunk = io::large_buffer();
     let got = libc::read(STDIN_FILENO, &mut chunk);
     if got < 0 {
-        return broken_off(place, b"checker: the input could not be read\n");
+        return broken_off(place.number, b"checker: the input could not be read\n");
     }
     if got == 0 {
         return Place {
             kept: place.kept,
             number: place.number,
             ended: true,
+            failed: false,
         };
     }
     let n = io::count(got, &chunk);
@@ -144,14 +198,18 @@ fn read_some(line: &mut [u8], register: &mut [u8], place: Place) -> Place {
 }
 
 // Nothing says that the input ends, so the loop counts its turns down, from a number that no run uses up.
-fn read_all(line: &mut [u8], register: &mut [u8]) -> Place {
+fn read_all(line: &mut [u8], register: &mut [u8]) -> Place
+    requires { ⌜ length (now line) ≡ room ⌝ }
+    ensures { λ r. ⌜ (r .failed ≡ false → Reached (held (now (line .entry)) 0 1 (now (register .entry))) (held (now (line .exit)) (r .kept) (r .number) (now (register .exit)))) ⌝ }
+{
     let mut place = Place {
         kept: 0,
         number: 1,
         ended: false,
+        failed: false,
     };
     let mut turns = u64::MAX;
-    while turns > 0 && !place.ended {
+    while turns > 0 && !place.ended && !place.failed {
         place = read_some(line, register, place);
         turns -= 1;
     }
@@ -164,7 +222,17 @@ fn main() {
     let mut line = [0u8; 4098];
     let mut register = empty_register();
     let place = read_all(&mut line, &mut register);
-    if 0 < place.kept {
-        report_line(text::head(&line, place.kept), &mut register, place);
+    if !place.failed {
+        let mut out = [0u8; LONGEST];
+        let n = finish(
+            &line,
+            &mut register,
+            place.kept,
+            place.number,
+            &mut out,
+        );
+        if !io::write_all(STDOUT_FILENO, text::head(&out, n)) {
+            broken_off(place.number, b"checker: an answer could not be written\n");
+        }
     }
 }

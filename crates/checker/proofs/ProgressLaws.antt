@@ -1,0 +1,177 @@
+-- Where the program stands behind bytes that come in pieces; and what the calls of a turn leave.
+use mathlib.Core.Path.{_≡_, _∙_, refl, sym, ap}
+use mathlib.Core.Bool.{Bool, true, false, cond}
+use mathlib.Core.List.{List, [], _∷_, _++_, append-nil, append-assoc}
+use Prim.Native.Nat.{ℕ, suc, _+_, _-_, _≤_, _<_}
+use native.Mathlib.Omega.{arith}
+use lib.Dec.{eqb, leb, ltb}
+use lib.ListN.{length, take, drop, length-take, length-drop}
+use lib.Seq.{take-all, take-add}
+use borrow.Author.Tests.{le-leb, lt-leb, lt-ltb, le-ltb}
+use Rattle.text.proofs.Bools.{by-test}
+use Rattle.buffer.specs.Kept.{Kept}
+use Rattle.buffer.proofs.KeptLaws.{keep-front, take-again}
+use Rattle.checker.specs.Setting.{emptyRegister}
+use Rattle.checker.specs.Bare.{bare}
+use Rattle.checker.specs.Printed.{Answered, longest}
+use Rattle.checker.specs.Program.{judged}
+use Rattle.checker.specs.Progress.{Progress, progress, held, start, told, left, room, raised, ended, more, step, said, after, writes, lastAnswer, lineEnd, upToEnd, Told, Roomy, Advanced, Reached}
+use Rattle.checker.proofs.LineEndLaws.{end-now, end-next, end-within, with-end}
+
+pub after-append : (p : Progress) (s t : List ℕ) → after p (s ++ t) ≡ after (after p s) t
+unfolding after
+after-append p [] t = refl
+after-append p (b ∷ s) t = after-append (step p b) s t
+
+pub writes-append : (p : Progress) (s t : List ℕ) → writes p (s ++ t) ≡ writes p s ++ writes (after p s) t
+unfolding after writes
+writes-append p [] t = refl
+writes-append p (b ∷ s) t =
+    ap (λ (l : List ℕ). said p b ++ l) (writes-append (step p b) s t)
+    ∙ sym (append-assoc (said p b) (writes (step p b) s) (writes (after (step p b) s) t))
+
+step-other : (p : Progress) (b : ℕ) → eqb b 10 ≡ false → step p b ≡ more p b
+step-other p b t = ap (λ (x : Bool). cond x (ended p) (more p b)) t
+
+none-kept : (s begun : List ℕ) (number : ℕ) (register : List ℕ) (end : ℕ) → length begun ≤ room → end ≡ 0
+    → after (progress begun number register) (take end s) ≡ progress (take room (begun ++ take end s)) number register
+unfolding after
+none-kept s begun number register end h e = rw (e, append-nil begun, take-all room begun h)
+
+-- before the first LF bytes are only kept
+pub plain : (s begun : List ℕ) (number : ℕ) (register : List ℕ) → length begun ≤ room
+    → after (progress begun number register) (take (lineEnd s) s) ≡ progress (take room (begun ++ take (lineEnd s) s)) number register
+unfolding after lineEnd
+plain [] begun number register h = none-kept [] begun number register 0 h refl
+plain (b ∷ s) begun number register h =
+    by-test (eqb b 10)
+    (λ t. none-kept (b ∷ s) begun number register (lineEnd (b ∷ s)) h (end-now b s t))
+    (λ t.
+    let e : lineEnd (b ∷ s) ≡ suc (lineEnd s) = end-next b s t in
+    (λ i. after (progress begun number register) (take (e i) (b ∷ s)))
+    ∙ ap (λ (p : Progress). after p (take (lineEnd s) s)) (step-other (progress begun number register) b t)
+    ∙ plain s (take room (begun ++ (b ∷ []))) number register (rw length-take (omega arith))
+    ∙ ap (λ (l : List ℕ). progress l number register)
+    (take-again room (begun ++ (b ∷ [])) (take (lineEnd s) s) ∙ ap (take room) (append-assoc begun (b ∷ []) (take (lineEnd s) s)))
+    ∙ sym (λ i. progress (take room (begun ++ take (e i) (b ∷ s))) number register))
+
+pub silent : (s : List ℕ) (p : Progress) → writes p (take (lineEnd s) s) ≡ []
+unfolding writes lineEnd
+silent [] p = refl
+silent (b ∷ s) p =
+    by-test (eqb b 10)
+    (λ t. ap (λ (n : ℕ). writes p (take n (b ∷ s))) (end-now b s t))
+    (λ t.
+    ap (λ (n : ℕ). writes p (take n (b ∷ s))) (end-next b s t)
+    ∙ ap (λ (x : Bool). cond x (told (p .number) (bare (p .begun)) (p .register)) [] ++ writes (step p b) (take (lineEnd s) s)) t
+    ∙ silent s (step p b))
+
+-- a line that is skipped, and one that is answered
+pub told-none : {number : ℕ} {line register out : List ℕ} → number ≤ 1 → Told number line register out out 0 register
+unfolding told left
+told-none {number} h = record { prints = λ e. rw (le-leb number 1 h); keeps = rw (le-leb number 1 h) }
+
+pub told-one : {number n : ℕ} {line register out out' register' : List ℕ} → 1 < number
+    → Answered number (judged line register) out out' n register' → Told number line register out out' n register'
+unfolding told left
+told-one {number} h a = record { prints = λ e. rw (lt-leb number 1 h) (a .prints e); keeps = rw (lt-leb number 1 h) (a .keeps) }
+
+module _ {line line' out : List ℕ} {kept begun end : ℕ} (chunk : List ℕ) (number : ℕ) (register : List ℕ) (e : end ≡ lineEnd chunk)
+    (roomy : Roomy line out) (k : Kept line kept (take end chunk) line' begun) where
+  -- the bytes before the LF are kept behind those that were
+  kept-so : held line' begun number register ≡ after (held line kept number register) (take (lineEnd chunk) chunk)
+  kept-so =
+      ap (λ (l : List ℕ). progress l number register)
+      (keep-front k ∙ (λ i. take (roomy .for-line i) (take kept line ++ take (e i) chunk)))
+      ∙ sym (plain chunk (take kept line) number register (rw length-take (omega (arith, roomy .for-line))))
+
+  pub advanced-all : end ≡ length chunk → Advanced (held line kept number register) chunk end (held line' begun number register) (take 0 out)
+  advanced-all h =
+      record {
+        takes = omega arith;
+        stands = kept-so ∙ ap (λ (n : ℕ). after (held line kept number register) (take n chunk)) (sym e);
+        puts =
+            sym
+            (ap (λ (n : ℕ). writes (held line kept number register) (take n chunk)) e ∙ silent chunk (held line kept number register));
+      }
+
+  pub advanced-line : {out' register' : List ℕ} {n next : ℕ} → (end ≡ length chunk → ⊥) → next ≡ raised number
+      → Told number (bare (take begun line')) register out out' n register'
+      → Advanced (held line kept number register) chunk (end + 1) (held line' 0 next register') (take n out')
+  unfolding after writes
+  advanced-line {out'} {register'} {n} {next} h r t =
+      let inside : lineEnd chunk < length chunk = omega (arith, end-within chunk) in
+      let bytes : take (end + 1) chunk ≡ take (lineEnd chunk) chunk ++ (10 ∷ []) =
+      ap (λ (m : ℕ). take (m + 1) chunk) e ∙ with-end chunk inside in
+      record {
+        takes = omega arith;
+        stands =
+            (λ i. progress [] (r i) (t .keeps i))
+            ∙ ap ended kept-so
+            ∙ sym (after-append (held line kept number register) (take (lineEnd chunk) chunk) (10 ∷ []))
+            ∙ ap (after (held line kept number register)) (sym bytes);
+        puts =
+            t .prints (roomy .for-answer)
+            ∙ sym (append-nil (told number (bare (take begun line')) register))
+            ∙ ap (λ (p : Progress). writes p (10 ∷ [])) kept-so
+            ∙ ap (λ (l : List ℕ). l ++ writes (after (held line kept number register) (take (lineEnd chunk) chunk)) (10 ∷ [])) (sym (silent chunk (held line kept number register)))
+            ∙ sym (writes-append (held line kept number register) (take (lineEnd chunk) chunk) (10 ∷ []))
+            ∙ ap (writes (held line kept number register)) (sym bytes);
+      }
+
+-- the line that has begun where the input ends
+module _ {line out : List ℕ} {kept : ℕ} (number : ℕ) (register : List ℕ) (roomy : Roomy line out) where
+  pub last-none : kept ≤ 0 → take 0 out ≡ lastAnswer (held line kept number register)
+  last-none h = rw (le-ltb 0 (length (take kept line)) (rw length-take (omega arith)))
+
+  pub last-one : {out' register' : List ℕ} {n : ℕ} → 0 < kept → Told number (take kept line) register out out' n register'
+      → take n out' ≡ lastAnswer (held line kept number register)
+  last-one h t = rw (lt-ltb 0 (length (take kept line)) (rw length-take (omega (arith, roomy .for-line)))) (t .prints (roomy .for-answer))
+
+-- the chunk is taken up to a place
+pub record TakenSoFar (p : Progress) (chunk : List ℕ) (at : ℕ) (q : Progress) : Type 0 where
+  pub within : at ≤ length chunk
+  pub stands : q ≡ after p (take at chunk)
+
+pub taken-start : {p : Progress} {chunk : List ℕ} → TakenSoFar p chunk 0 p
+unfolding after
+taken-start = record { within = omega arith; stands = refl }
+
+module _ {p q : Progress} {chunk : List ℕ} {at : ℕ} (so-far : TakenSoFar p chunk at q) where
+  pub taken-on : {q' : Progress} {put : List ℕ} {used : ℕ} → Advanced q (drop at chunk) used q' put → TakenSoFar p chunk (at + used) q'
+  taken-on {q'} {put} {used} a =
+      record {
+        within = omega (arith, a .takes, length-drop at chunk, so-far .within);
+        stands =
+            a .stands
+            ∙ ap (λ (x : Progress). after x (take used (drop at chunk))) (so-far .stands)
+            ∙ sym (after-append p (take at chunk) (take used (drop at chunk)))
+            ∙ ap (after p) (sym (take-add at used chunk));
+      }
+
+  -- a turn takes something, so the loop ends
+  pub taken-less : {q' : Progress} {put : List ℕ} {used : ℕ} → at < length chunk → Advanced q (drop at chunk) used q' put
+      → length chunk - (at + used) < length chunk - at
+  taken-less {q'} {put} {used} h a = omega (arith, a .takes, length-drop at chunk)
+
+  pub taken-all : length chunk ≤ at → q ≡ after p chunk
+  taken-all h = so-far .stands ∙ ap (after p) (take-all at chunk h)
+
+-- where bytes lead
+pub stays : {p : Progress} → Reached p p
+unfolding after
+stays = record { bytes = []; there = refl }
+
+pub reached : {p q : Progress} (s : List ℕ) → q ≡ after p s → Reached p q
+reached s e = record { bytes = s; there = e }
+
+pub from-start : {register : List ℕ} {q : Progress} → register ≡ emptyRegister → Reached (progress [] 1 register) q → Reached start q
+from-start e r =
+    record { bytes = r .bytes; there = r .there ∙ ap (λ (x : List ℕ). after (progress [] 1 x) (r .bytes)) e }
+
+pub leads : {p q r : Progress} → Reached p q → Reached q r → Reached p r
+leads {p} a b =
+    record {
+      bytes = a .bytes ++ b .bytes;
+      there = b .there ∙ ap (λ (x : Progress). after x (b .bytes)) (a .there) ∙ sym (after-append p (a .bytes) (b .bytes));
+    }

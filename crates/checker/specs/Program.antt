@@ -1,0 +1,20 @@
+-- What the program writes for a whole input: line one is skipped, and for each other line its number, answer, n and codes are
+-- printed. The register is empty at first, and each line is judged over the one that the line before it left.
+use Prim.Native.Nat.{ℕ, _+_}
+use mathlib.Core.List.{List, [], _∷_, _++_}
+use lib.ListN.{drop}
+use Rattle.judge.specs.Outcome.{Outcome, outcome}
+use Rattle.checker.specs.Setting.{emptyRegister, called}
+use Rattle.checker.specs.Lines.{linesOf}
+use Rattle.checker.specs.Printed.{answerTo}
+
+unfoldable pub judged : List ℕ → List ℕ → Outcome
+judged line register = outcome (called line register) 137
+
+unfoldable pub answers : ℕ → List ℕ → List (List ℕ) → List ℕ
+answers number register [] = []
+answers number register (line ∷ lines) =
+    answerTo number (judged line register) ++ answers (number + 1) (judged line register .register) lines
+
+unfoldable pub programWrites : List ℕ → List ℕ
+programWrites input = answers 2 emptyRegister (drop 1 (linesOf input))

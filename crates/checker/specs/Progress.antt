@@ -1,0 +1,105 @@
+-- Where the program stands between two bytes of its input, and what it writes on the way. The input comes in chunks, cut anywhere.
+use Prim.Native.Nat.{ℕ, suc, _+_, _≤_, min}
+use mathlib.Core.Path.{_≡_}
+use mathlib.Core.Bool.{Bool, false, cond}
+use mathlib.Core.List.{List, [], _∷_, _++_}
+use lib.Dec.{eqb, leb, ltb}
+use lib.ListN.{length, take}
+use Rattle.checker.specs.Setting.{emptyRegister}
+use Rattle.checker.specs.Bare.{bare}
+use Rattle.checker.specs.Printed.{longest, answerTo}
+use Rattle.checker.specs.Program.{judged}
+
+-- the bytes kept of the line that has begun, its number, and the register
+pub record Progress : Type 0 where
+  pub begun : List ℕ
+  pub number : ℕ
+  pub register : List ℕ
+
+abbrev pub progress : List ℕ → ℕ → List ℕ → Progress
+progress begun number register = record { begun = begun; number = number; register = register }
+
+-- by the program's buffers: the first bytes of one are kept
+abbrev pub held : List ℕ → ℕ → ℕ → List ℕ → Progress
+held line kept number register = progress (take kept line) number register
+
+abbrev pub start : Progress
+start = progress [] 1 emptyRegister
+
+-- what is written for a line of some number, and the register behind it: line one is skipped
+unfoldable pub told : ℕ → List ℕ → List ℕ → List ℕ
+told number line register = cond (leb number 1) [] (answerTo number (judged line register))
+
+unfoldable pub left : ℕ → List ℕ → List ℕ → List ℕ
+left number line register = cond (leb number 1) register (judged line register .register)
+
+-- of a line no more than 4,098 bytes are kept
+abbrev pub room : ℕ
+room = 4098
+
+-- numbers have 64 bits
+abbrev pub raised : ℕ → ℕ
+raised number = min (number + 1) 18446744073709551615
+
+abbrev pub ended : Progress → Progress
+ended p = progress [] (raised (p .number)) (left (p .number) (bare (p .begun)) (p .register))
+
+abbrev pub more : Progress → ℕ → Progress
+more p b = progress (take room (p .begun ++ (b ∷ []))) (p .number) (p .register)
+
+-- one byte: LF ends the line
+abbrev pub step : Progress → ℕ → Progress
+step p b = cond (eqb b 10) (ended p) (more p b)
+
+abbrev pub said : Progress → ℕ → List ℕ
+said p b = cond (eqb b 10) (told (p .number) (bare (p .begun)) (p .register)) []
+
+-- where it stands behind some bytes, and what it has written for them
+unfoldable pub after : Progress → List ℕ → Progress
+after p [] = p
+after p (b ∷ s) = after (step p b) s
+
+unfoldable pub writes : Progress → List ℕ → List ℕ
+writes p [] = []
+writes p (b ∷ s) = said p b ++ writes (step p b) s
+
+-- what it writes at the end of the input, where a line may have begun
+abbrev pub lastAnswer : Progress → List ℕ
+lastAnswer p = cond (ltb 0 (length (p .begun))) (told (p .number) (p .begun) (p .register)) []
+
+-- the place of the first LF, or the length
+unfoldable pub lineEnd : List ℕ → ℕ
+lineEnd [] = 0
+lineEnd (b ∷ s) = cond (eqb b 10) 0 (suc (lineEnd s))
+
+-- up to the first LF and with it, or all
+abbrev pub upToEnd : List ℕ → ℕ
+upToEnd chunk = min (length chunk) (lineEnd chunk + 1)
+
+-- What is written for a line stands in the first n bytes of a buffer that has room for the longest.
+pub record Told (number : ℕ) (line register before after : List ℕ) (n : ℕ) (register' : List ℕ) : Type 0 where
+  pub prints : longest ≤ length before → take n after ≡ told number line register
+  pub keeps : register' ≡ left number line register
+
+-- the room that a turn needs: for what is kept of a line, and for what is written
+pub record Roomy (line out : List ℕ) : Type 0 where
+  pub for-line : length line ≡ room
+  pub for-answer : longest ≤ length out
+
+-- A turn takes the bytes of a chunk up to the first LF, stands behind them, and puts what is written for them.
+pub record Advanced (p : Progress) (chunk : List ℕ) (used : ℕ) (q : Progress) (put : List ℕ) : Type 0 where
+  pub takes : used ≡ upToEnd chunk
+  pub stands : q ≡ after p (take used chunk)
+  pub puts : put ≡ writes p (take used chunk)
+
+-- Turns one after another, each on any chunk: the bytes taken, where the program stands behind them, and what was put, joined.
+pub data Run : List ℕ → Progress → List ℕ → Type 0 where
+  begins : Run [] start []
+  turn :
+      {taken output chunk put : List ℕ} {p q : Progress} {used : ℕ} → Run taken p output → Advanced p chunk used q put
+      → Run (taken ++ take used chunk) q (output ++ put)
+
+-- where some bytes lead, whatever they are
+pub record Reached (p q : Progress) : Type 0 where
+  pub bytes : List ℕ
+  pub there : q ≡ after p bytes
