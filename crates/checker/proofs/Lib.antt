@@ -5,4 +5,5 @@ mod DecimalLaws
 mod AnswerLaws
 mod ProgressLaws
 mod Enough
+mod Program
 mod Setting

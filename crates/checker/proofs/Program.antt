@@ -1,0 +1,163 @@
+-- Whatever pieces the input comes in, what the program's functions hand to the write is, joined, what the paper has it write.
+use mathlib.Core.Path.{_≡_, _∙_, refl, sym, ap}
+use mathlib.Core.Bool.{Bool, true, false, cond}
+use mathlib.Core.List.{List, [], _∷_, _++_, append-nil, append-assoc}
+use Prim.Native.Nat.{ℕ, _+_, _≤_, _<_}
+use native.Mathlib.Omega.{arith}
+use lib.Dec.{eqb, leb, ltb}
+use lib.ListN.{length, take, drop}
+use borrow.Author.Tests.{lt-leb, lt-ltb, leb-true}
+use contract.Lifetimes.{Lfts}
+use denote.Triple.Clauses.{AtExit}
+use borrow.Fn.Kinds.{Dens, resT, endedOf}
+use Rattle.text.proofs.Bools.{by-test}
+use Rattle.buffer.proofs.KeptLaws.{take-again}
+use Rattle.judge.specs.Outcome.{Outcome}
+use Rattle.checker.specs.Setting.{emptyRegister}
+use Rattle.checker.specs.Bare.{bare}
+use Rattle.checker.specs.Lines.{unended, linesFrom}
+use Rattle.checker.specs.Printed.{answerTo}
+use Rattle.checker.specs.Program.{judged, answers, programWrites}
+use Rattle.checker.specs.Progress.{Progress, progress, held, start, told, left, room, raised, ended, more, step, said, after, writes, lastAnswer, Advanced, Run, begins, turn}
+use Rattle.checker.proofs.ProgressLaws.{after-append, writes-append}
+use Rattle.checker.proofs.Enough.{kept-ended, kept-last}
+use Rattle.checker.proofs.advance.Kinds as advance-kinds
+use Rattle.checker.proofs.advance.Reads as advance-reads
+use Rattle.checker.proofs.finish.Kinds as finish-kinds
+use Rattle.checker.proofs.finish.Reads as finish-reads
+
+-- the answers to the lines from a number on, of which line one has none
+abbrev behind : ℕ → List ℕ → List (List ℕ) → List ℕ
+behind number register lines = cond (leb number 1) (answers 2 register (drop 1 lines)) (answers number register lines)
+
+none-behind : (number : ℕ) (register : List ℕ) → [] ≡ behind number register []
+unfolding answers
+none-behind number register = by-test (leb number 1) (λ t. rw t) (λ t. rw t)
+
+-- one line and those behind it: what is kept of it has its outcome
+one-line : (number : ℕ) (kept line register : List ℕ) (lines : List (List ℕ)) → 1 ≤ number → judged kept register ≡ judged line register
+    → told number kept register ++ answers (number + 1) (left number kept register) lines ≡ behind number register (line ∷ lines)
+unfolding told left answers
+one-line number kept line register lines h e =
+    ap
+    (λ (o : Outcome). cond (leb number 1) [] (answerTo number o) ++ answers (number + 1) (cond (leb number 1) register (o .register)) lines) e
+    ∙ go (leb number 1) refl
+  where
+    go : (t : Bool) → leb number 1 ≡ t
+        → cond t [] (answerTo number (judged line register)) ++ answers (number + 1) (cond t register (judged line register .register)) lines
+        ≡ cond t (answers 2 register lines) (answerTo number (judged line register) ++ answers (number + 1) (judged line register .register) lines)
+    go true t =
+        let second : number + 1 ≡ 2 = omega (arith, leb-true number 1 t) in
+        ap (λ (n : ℕ). answers n register lines) second
+    go false t = refl
+
+-- all that is written for some bytes, the end of the input behind them
+abbrev total : Progress → List ℕ → List ℕ
+total p s = writes p s ++ lastAnswer (after p s)
+
+at-end : (whole : List ℕ) (number : ℕ) (register : List ℕ) → 1 ≤ number
+    → lastAnswer (progress (take room whole) number register) ≡ behind number register (unended whole)
+unfolding unended answers
+at-end [] number register h = none-behind number register
+at-end (b ∷ s) number register h =
+    ap (λ (t : Bool). cond t (told number (take room (b ∷ s)) register) []) (lt-ltb 0 (length (take room (b ∷ s))) (omega arith))
+    ∙ sym (append-nil (told number (take room (b ∷ s)) register))
+    ∙ one-line number (take room (b ∷ s)) (b ∷ s) register [] h (kept-last (b ∷ s) register)
+
+-- one byte, which is LF or is not, by what is written for those behind it
+module _ (b : ℕ) (s whole : List ℕ) (number : ℕ) (register : List ℕ) where
+  abbrev now : Progress
+  now = progress (take room whole) number register
+
+  abbrev here : List ℕ
+  here = told number (bare (take room whole)) register
+
+  abbrev next : List ℕ
+  next = left number (bare (take room whole)) register
+
+  abbrev by-byte : Bool → List ℕ
+  by-byte t = (cond t here [] ++ writes (cond t (ended now) (more now b)) s) ++ lastAnswer (after (cond t (ended now) (more now b)) s)
+
+  abbrev lines-by : Bool → List ℕ
+  lines-by t = behind number register (cond t (bare whole ∷ linesFrom [] s) (linesFrom (whole ++ (b ∷ [])) s))
+
+  line-ends : 1 ≤ number → number < 18446744073709551615 → total (progress [] (number + 1) next) s ≡ behind (number + 1) next (linesFrom [] s)
+      → by-byte true ≡ lines-by true
+  line-ends h k e =
+      let up : raised number ≡ number + 1 = omega arith in
+      let later : leb (number + 1) 1 ≡ false = lt-leb (number + 1) 1 (omega arith) in
+      append-assoc here (writes (ended now) s) (lastAnswer (after (ended now) s))
+      ∙ ap (λ (n : ℕ). here ++ total (progress [] n next) s) up
+      ∙ ap (λ (l : List ℕ). here ++ l) e
+      ∙ ap (λ (x : Bool). here ++ cond x (answers 2 next (drop 1 (linesFrom [] s))) (answers (number + 1) next (linesFrom [] s))) later
+      ∙ one-line number (bare (take room whole)) (bare whole) register (linesFrom [] s) h (kept-ended whole register)
+
+  line-goes-on : total (progress (take room (whole ++ (b ∷ []))) number register) s ≡ behind number register (linesFrom (whole ++ (b ∷ [])) s)
+      → by-byte false ≡ lines-by false
+  line-goes-on e = ap (λ (l : List ℕ). total (progress l number register) s) (take-again room whole (b ∷ [])) ∙ e
+
+  by-cases : (t : Bool) → (t ≡ true → by-byte true ≡ lines-by true) → (t ≡ false → by-byte false ≡ lines-by false) → by-byte t ≡ lines-by t
+  by-cases true f g = f refl
+  by-cases false f g = g refl
+
+-- the bytes of a line have begun, and others follow
+all-written : (s whole : List ℕ) (number : ℕ) (register : List ℕ) → 1 ≤ number → number + length s ≤ 18446744073709551615
+    → total (progress (take room whole) number register) s ≡ behind number register (linesFrom whole s)
+unfolding after writes linesFrom
+all-written [] whole number register h k = at-end whole number register h
+all-written (b ∷ s) whole number register h k =
+    by-cases b s whole number register (eqb b 10)
+    (λ t.
+    line-ends b s whole number register h (omega arith)
+    (all-written s [] (number + 1) (left number (bare (take room whole)) register) (omega arith) (omega arith)))
+    (λ t. line-goes-on b s whole number register (all-written s (whole ++ (b ∷ [])) number register h (omega arith)))
+
+-- the whole input, from the start: lines are counted in 64 bits, so it is shorter than that
+pub input-written : (input : List ℕ) → length input < 18446744073709551615 → writes start input ++ lastAnswer (after start input) ≡ programWrites input
+unfolding programWrites
+input-written input h = all-written input [] 1 emptyRegister (omega arith) (omega arith)
+
+-- what turns leave does not depend on how the bytes were cut
+pub record Followed (taken : List ℕ) (p : Progress) (output : List ℕ) : Type 0 where
+  pub stands : p ≡ after start taken
+  pub written : output ≡ writes start taken
+
+followed : {taken output : List ℕ} {p : Progress} → Run taken p output → Followed taken p output
+unfolding after writes
+followed begins = record { stands = refl; written = refl }
+followed (turn {taken} {output} {chunk} {put} {p} {q} {used} run a) =
+    let f : Followed taken p output = followed run in
+    record {
+      stands =
+          a .stands
+          ∙ ap (λ (x : Progress). after x (take used chunk)) (f .stands)
+          ∙ sym (after-append start taken (take used chunk));
+      written =
+          (λ i. f .written i ++ (a .puts ∙ ap (λ (x : Progress). writes x (take used chunk)) (f .stands)) i)
+          ∙ sym (writes-append start taken (take used chunk));
+    }
+
+-- Every run: what its turns put and what is put at the end of the input, joined, is what the program writes for the input.
+pub program-writes : {input output put : List ℕ} {p : Progress} → Run input p output → length input < 18446744073709551615 → put ≡ lastAnswer p
+    → output ++ put ≡ programWrites input
+program-writes {input} run h e =
+    (λ i. followed run .written i ++ (e ∙ ap lastAnswer (followed run .stands)) i) ∙ input-written input h
+
+-- A call of `advance` is a turn: its contract, as it stands over the code, is what `turn` asks for.
+pub turns :
+    {taken output : List ℕ} (κs : Lfts 4) (a : Dens κs advance-kinds.ps) (x : resT advance-kinds.r κs .Denot)
+    (s : AtExit (endedOf 4 advance-kinds.ps advance-kinds.r) κs)
+    → advance-reads.Post κs a x s
+    → Run taken (held (a .1 .0 .now) (a .1 .1 .1 .0) (a .1 .1 .1 .1 .0) (a .1 .1 .0 .now)) output
+    → Run (taken ++ take (x .used) (a .0 .now)) (held (s .1 .0 .now) (x .kept) (x .number) (s .1 .1 .0 .now)) (output ++ take (x .written) (s .1 .1 .1 .1 .1 .0 .now))
+turns κs a x s post run = turn run post
+
+-- A call of `finish` ends the run: by its contract, all that was put is what the program writes for the input.
+pub ends :
+    {input output : List ℕ} (κs : Lfts 3) (a : Dens κs finish-kinds.ps) (x : resT finish-kinds.r κs .Denot)
+    (s : AtExit (endedOf 3 finish-kinds.ps finish-kinds.r) κs)
+    → finish-reads.Post κs a x s
+    → Run input (held (a .0 .now) (a .1 .1 .0) (a .1 .1 .1 .0) (a .1 .0 .now)) output
+    → length input < 18446744073709551615
+    → output ++ take x (s .1 .1 .1 .1 .0 .now) ≡ programWrites input
+ends κs a x s post run h = program-writes run h post
