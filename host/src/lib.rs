@@ -1,6 +1,7 @@
 //! A second reading of the paper that fixes the rules, written independently of the proved checker, and the tools
 //! that hold the two against each other: `cases` makes calls with the results expected of them, `compare` looks at
-//! what the proved side answered, `coverage` counts what a file of cases reaches.
+//! what the proved side answered, `coverage` counts what a file of cases reaches. `program` is the paper's program,
+//! `report` makes inputs for it, and `drip` hands them over in short pieces.
 //!
 //! For benchmarks there are two functions:
 //!
@@ -17,5 +18,6 @@ pub mod file;
 pub mod program;
 pub mod recipe;
 pub mod reference;
+pub mod report;
 
 pub use recipe::{bench_day, sized_bench_day, BenchDay};

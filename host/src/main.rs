@@ -3,10 +3,10 @@
 
 use std::error::Error;
 use std::fs::File;
-use std::io::{self, BufReader, BufWriter};
+use std::io::{self, BufReader, BufWriter, Write};
 use std::process::ExitCode;
 
-use host::{compare, coverage, program, recipe};
+use host::{compare, coverage, program, recipe, report};
 
 const USAGE: &str = "usage:
   host cases SEED N FILE        make N calls with the results expected of them
@@ -14,6 +14,8 @@ const USAGE: &str = "usage:
   host compare FILE RESULTS     hold the results of the proved side against them
   host coverage FILE [TIMES]    count what the cases reach; each code alone at least TIMES (5)
   host program                  the paper's program: standard input to standard output
+  host report SEED N            an input for it of N lines, of every kind
+  host drip SEED                standard input to standard output, in short pieces with pauses between
 The files are described in docs/CASES.md.";
 
 fn open(path: &str) -> Result<BufReader<File>, String> {
@@ -24,13 +26,16 @@ fn create(path: &str) -> Result<BufWriter<File>, String> {
     File::create(path).map(BufWriter::new).map_err(|error| format!("{path}: {error}"))
 }
 
+fn seed_in(word: &str) -> Result<u64, String> {
+    word.parse().map_err(|_| format!("{word}: not a seed"))
+}
+
 fn run(arguments: &[&str]) -> Result<bool, Box<dyn Error>> {
-    let output = BufWriter::new(io::stdout().lock());
+    let mut output = BufWriter::new(io::stdout().lock());
     match arguments {
         ["cases", seed, count, path] => {
-            let seed = seed.parse().map_err(|_| format!("{seed}: not a seed"))?;
             let count = count.parse().map_err(|_| format!("{count}: not a number of cases"))?;
-            recipe::run(seed, count, create(path)?, output)?;
+            recipe::run(seed_in(seed)?, count, create(path)?, output)?;
             Ok(true)
         }
         ["answer", cases, results] => {
@@ -45,6 +50,16 @@ fn run(arguments: &[&str]) -> Result<bool, Box<dyn Error>> {
         }
         ["program"] => {
             program::run(io::stdin().lock(), output)?;
+            Ok(true)
+        }
+        ["report", seed, count] => {
+            let count = count.parse().map_err(|_| format!("{count}: not a number of lines"))?;
+            output.write_all(&report::report(seed_in(seed)?, count))?;
+            output.flush()?;
+            Ok(true)
+        }
+        ["drip", seed] => {
+            report::drip(seed_in(seed)?, io::stdin().lock(), output)?;
             Ok(true)
         }
         ["--help" | "-h" | "help"] => {

@@ -9,7 +9,7 @@ mod calls;
 mod classes;
 mod draft;
 mod kinds;
-mod rng;
+pub(crate) mod rng;
 mod rules;
 mod values;
 mod world;
