@@ -1,21 +1,23 @@
 -- Where the program stands behind bytes that come in pieces; and what the calls of a turn leave.
 use mathlib.Core.Path.{_≡_, _∙_, refl, sym, ap}
-use mathlib.Core.Bool.{Bool, true, false, cond}
+use mathlib.Core.Bool.{Bool, true, false, cond, true≢false}
 use mathlib.Core.List.{List, [], _∷_, _++_, append-nil, append-assoc}
 use Prim.Native.Nat.{ℕ, suc, _+_, _-_, _≤_, _<_}
 use native.Mathlib.Omega.{arith}
 use lib.Dec.{eqb, leb, ltb}
-use lib.ListN.{length, take, drop, length-take, length-drop}
+use lib.IntN.{ℤ}
+use lib.ListN.{length, take, drop, length-append, length-take, length-drop}
 use lib.Seq.{take-all, take-add}
-use borrow.Author.Tests.{le-leb, lt-leb, lt-ltb, le-ltb}
+use borrow.Author.Tests.{eq-eqb, ne-eqb, eqb-false, le-leb, lt-leb, lt-ltb, le-ltb}
 use Rattle.text.proofs.Bools.{by-test}
+use Rattle.io.specs.Counts.{Counts, clamped}
 use Rattle.buffer.specs.Kept.{Kept}
 use Rattle.buffer.proofs.KeptLaws.{keep-front, take-again}
 use Rattle.checker.specs.Setting.{emptyRegister}
 use Rattle.checker.specs.Bare.{bare}
 use Rattle.checker.specs.Printed.{Answered, longest}
 use Rattle.checker.specs.Program.{judged}
-use Rattle.checker.specs.Progress.{Progress, progress, held, start, told, left, room, raised, ended, more, step, said, after, writes, lastAnswer, lineEnd, upToEnd, Told, Roomy, Advanced, Reached}
+use Rattle.checker.specs.Progress.{Progress, progress, held, start, told, left, room, raised, ended, more, step, said, after, writes, lastAnswer, lineEnd, upToEnd, Told, Roomy, Advanced, Took, readIn, TookRead, Reached, ReadOn}
 use Rattle.checker.proofs.LineEndLaws.{end-now, end-next, end-within, with-end}
 
 pub after-append : (p : Progress) (s t : List ℕ) → after p (s ++ t) ≡ after (after p s) t
@@ -154,24 +156,69 @@ module _ {p q : Progress} {chunk : List ℕ} {at : ℕ} (so-far : TakenSoFar p c
       → length chunk - (at + used) < length chunk - at
   taken-less {q'} {put} {used} h a = omega (arith, a .takes, length-drop at chunk)
 
-  pub taken-all : length chunk ≤ at → q ≡ after p chunk
-  taken-all h = so-far .stands ∙ ap (after p) (take-all at chunk h)
+  pub taken-all : length chunk ≤ at → Took p chunk q false false
+  taken-all h = record { goes-on = refl; stands = λ f. so-far .stands ∙ ap (after p) (take-all at chunk h) }
+
+pub taken-failed : {p q : Progress} {chunk : List ℕ} {ended failed : Bool} → (ended ≡ false) × (failed ≡ true) → Took p chunk q ended failed
+taken-failed e = record { goes-on = e .0; stands = λ f. absurd (true≢false (sym (e .1) ∙ f)) }
+
+-- what a read put in is taken, or there is none
+pub read-failed : {got : ℤ} {chunk : List ℕ} {p q : Progress} {ended failed : Bool} → failed ≡ true → TookRead got chunk p q ended failed
+read-failed e = record { stands = λ f. absurd (true≢false (sym e ∙ f)); at-end = λ f. absurd (true≢false (sym e ∙ f)) }
+
+module _ (got : ℤ) (chunk : List ℕ) {n : ℕ} (counts : Counts n chunk) (e : n ≡ clamped got (length chunk)) where
+  same-bytes : take n chunk ≡ readIn got chunk
+  same-bytes = ap (λ (k : ℕ). take k chunk) e
+
+  same-length : n ≡ length (readIn got chunk)
+  same-length = counts .1 ∙ ap length same-bytes
+
+  pub read-none : {p : Progress} → n ≡ 0 → TookRead got chunk p p true false
+  unfolding after
+  read-none {p} z =
+      record {
+        stands = λ f. ap (λ (k : ℕ). after p (take k chunk)) (sym z) ∙ ap (after p) same-bytes;
+        at-end = λ f. sym (eq-eqb (length (readIn got chunk)) 0 (sym same-length ∙ z));
+      }
+
+  pub read-more : {p q : Progress} {ended failed : Bool} → (n ≡ 0 → ⊥) → Took p (take n chunk) q ended failed → TookRead got chunk p q ended failed
+  read-more {p} z t =
+      record {
+        stands = λ f. t .stands f ∙ ap (after p) same-bytes;
+        at-end = λ f. t .goes-on ∙ sym (ne-eqb (length (readIn got chunk)) 0 (λ none. z (same-length ∙ none)));
+      }
 
 -- where bytes lead
-pub stays : {p : Progress} → Reached p p
-unfolding after
-stays = record { bytes = []; there = refl }
-
-pub reached : {p q : Progress} (s : List ℕ) → q ≡ after p s → Reached p q
-reached s e = record { bytes = s; there = e }
-
 pub from-start : {register : List ℕ} {q : Progress} → register ≡ emptyRegister → Reached (progress [] 1 register) q → Reached start q
 from-start e r =
     record { bytes = r .bytes; there = r .there ∙ ap (λ (x : List ℕ). after (progress [] 1 x) (r .bytes)) e }
 
-pub leads : {p q r : Progress} → Reached p q → Reached q r → Reached p r
-leads {p} a b =
-    record {
-      bytes = a .bytes ++ b .bytes;
-      there = b .there ∙ ap (λ (x : Progress). after x (b .bytes)) (a .there) ∙ sym (after-append p (a .bytes) (b .bytes));
-    }
+pub on-start : {p : Progress} → ReadOn p p false 18446744073709551615
+unfolding after
+on-start = record { reached = record { bytes = []; there = refl }; not-early = λ e. omega arith }
+
+module _ {p q : Progress} {ended : Bool} {turns : ℕ} (so-far : ReadOn p q ended turns) where
+  pub on-more : {got : ℤ} {chunk : List ℕ} {q' : Progress} {ended' failed : Bool} → 0 < turns → ended ≡ false → failed ≡ false
+      → TookRead got chunk q q' ended' failed → ReadOn p q' ended' (turns - 1)
+  on-more {got} {chunk} h e f t =
+      record {
+        reached =
+            record {
+              bytes = so-far .reached .bytes ++ readIn got chunk;
+              there =
+                  t .stands f
+                  ∙ ap (λ (x : Progress). after x (readIn got chunk)) (so-far .reached .there)
+                  ∙ sym (after-append p (so-far .reached .bytes) (readIn got chunk));
+            };
+        not-early =
+            λ g.
+            let some : length (readIn got chunk) ≡ 0 → ⊥ = eqb-false (length (readIn got chunk)) 0 (sym (t .at-end f) ∙ g) in
+            rw (length-append (so-far .reached .bytes) (readIn got chunk)) (omega (arith, so-far .not-early e));
+      }
+
+  -- the loop ends with its turns, or with the input
+  pub on-done : turns ≤ 0 → ReadOn p q ended 0
+  on-done h = record { reached = so-far .reached; not-early = λ e. omega (arith, so-far .not-early e) }
+
+  pub on-ended : ended ≡ true → ReadOn p q ended 0
+  on-ended e = record { reached = so-far .reached; not-early = λ f. absurd (true≢false (sym e ∙ f)) }

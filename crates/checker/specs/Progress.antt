@@ -4,7 +4,9 @@ use mathlib.Core.Path.{_≡_}
 use mathlib.Core.Bool.{Bool, false, cond}
 use mathlib.Core.List.{List, [], _∷_, _++_}
 use lib.Dec.{eqb, leb, ltb}
+use lib.IntN.{ℤ}
 use lib.ListN.{length, take}
+use Rattle.io.specs.Counts.{clamped}
 use Rattle.checker.specs.Setting.{emptyRegister}
 use Rattle.checker.specs.Bare.{bare}
 use Rattle.checker.specs.Printed.{longest, answerTo}
@@ -99,7 +101,26 @@ pub data Run : List ℕ → Progress → List ℕ → Type 0 where
       {taken output chunk put : List ℕ} {p q : Progress} {used : ℕ} → Run taken p output → Advanced p chunk used q put
       → Run (taken ++ take used chunk) q (output ++ put)
 
+-- A chunk is taken whole, unless a call failed.
+pub record Took (p : Progress) (chunk : List ℕ) (q : Progress) (ended failed : Bool) : Type 0 where
+  pub goes-on : ended ≡ false
+  pub stands : failed ≡ false → q ≡ after p chunk
+
+-- the bytes that a read put into a chunk, by what it answered
+abbrev pub readIn : ℤ → List ℕ → List ℕ
+readIn got chunk = take (clamped got (length chunk)) chunk
+
+-- They are taken, and where there are none the input has ended, unless a call failed.
+pub record TookRead (got : ℤ) (chunk : List ℕ) (p q : Progress) (ended failed : Bool) : Type 0 where
+  pub stands : failed ≡ false → q ≡ after p (readIn got chunk)
+  pub at-end : failed ≡ false → ended ≡ eqb (length (readIn got chunk)) 0
+
 -- where some bytes lead, whatever they are
 pub record Reached (p q : Progress) : Type 0 where
   pub bytes : List ℕ
   pub there : q ≡ after p bytes
+
+-- Reads go on until the input has ended, or until it has had more bytes than any input: all but so many of the turns are done.
+pub record ReadOn (p q : Progress) (ended : Bool) (turns : ℕ) : Type 0 where
+  pub reached : Reached p q
+  pub not-early : ended ≡ false → 18446744073709551615 ≤ turns + length (reached .bytes)

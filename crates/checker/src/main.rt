@@ -9,7 +9,7 @@ ghost use lib.ListN.{length, take};
 ghost use Rattle.checker.specs.Setting.{emptyRegister};
 ghost use Rattle.checker.specs.Printed.{Answered};
 ghost use Rattle.checker.specs.Program.{judged};
-ghost use Rattle.checker.specs.Progress.{held, start, after, lastAnswer, room, raised, Told, Roomy, Advanced, Reached};
+ghost use Rattle.checker.specs.Progress.{held, start, lastAnswer, room, raised, Told, Roomy, Advanced, Took, TookRead, Reached, ReadOn};
 
 mod lines;
 mod print;
@@ -137,7 +137,7 @@ struct Place {
 
 // A call that failed ends the run, and the line that it broke off is not judged.
 fn broken_off(number: u64, message: &[u8]) -> Place
-    ensures { λ r. ⌜ r .failed ≡ true ⌝ }
+    ensures { λ r. ⌜ (r .ended ≡ false) × (r .failed ≡ true) ⌝ }
 {
     io::write_all(STDERR_FILENO, message);
     Place {
@@ -153,7 +153,7 @@ const LONGEST: usize = 2940;
 
 fn take_chunk(chunk: &[u8], line: &mut [u8], register: &mut [u8], place: Place) -> Place
     requires { ⌜ length (now line) ≡ room ⌝ }
-    ensures { λ r. ⌜ (r .failed ≡ false → held (now (line .exit)) (r .kept) (r .number) (now (register .exit)) ≡ after (held (now (line .entry)) (place .kept) (place .number) (now (register .entry))) (now (chunk .entry))) ⌝ }
+    ensures { λ r. ⌜ Took (held (now (line .entry)) (place .kept) (place .number) (now (register .entry))) (now (chunk .entry)) (held (now (line .exit)) (r .kept) (r .number) (now (register .exit))) (r .ended) (r .failed) ⌝ }
 {
     let mut out = [0u8; LONGEST];
     let mut kept = place.kept;
@@ -176,16 +176,16 @@ fn take_chunk(chunk: &[u8], line: &mut [u8], register: &mut [u8], place: Place) 
     }
 }
 
-fn read_some(line: &mut [u8], register: &mut [u8], place: Place) -> Place
+// Takes what a read that answered `got` put into the chunk.
+fn take_read(got: isize, chunk: &[u8], line: &mut [u8], register: &mut [u8], place: Place) -> Place
     requires { ⌜ length (now line) ≡ room ⌝ }
-    ensures { λ r. ⌜ (r .failed ≡ false → Reached (held (now (line .entry)) (place .kept) (place .number) (now (register .entry))) (held (now (line .exit)) (r .kept) (r .number) (now (register .exit)))) ⌝ }
+    ensures { λ r. ⌜ TookRead got (now (chunk .entry)) (held (now (line .entry)) (place .kept) (place .number) (now (register .entry))) (held (now (line .exit)) (r .kept) (r .number) (now (register .exit))) (r .ended) (r .failed) ⌝ }
 {
-    let mut chunk = io::large_buffer();
-    let got = libc::read(STDIN_FILENO, &mut chunk);
     if got < 0 {
         return broken_off(place.number, b"checker: the input could not be read\n");
     }
-    if got == 0 {
+    let n = io::count(got, chunk);
+    if n == 0 {
         return Place {
             kept: place.kept,
             number: place.number,
@@ -193,15 +193,15 @@ fn read_some(line: &mut [u8], register: &mut [u8], place: Place) -> Place
             failed: false,
         };
     }
-    let n = io::count(got, &chunk);
-    take_chunk(&chunk[..n], line, register, place)
+    take_chunk(text::head(chunk, n), line, register, place)
 }
 
 // Nothing says that the input ends, so the loop counts its turns down, from a number that no run uses up.
 fn read_all(line: &mut [u8], register: &mut [u8]) -> Place
     requires { ⌜ length (now line) ≡ room ⌝ }
-    ensures { λ r. ⌜ (r .failed ≡ false → Reached (held (now (line .entry)) 0 1 (now (register .entry))) (held (now (line .exit)) (r .kept) (r .number) (now (register .exit)))) ⌝ }
+    ensures { λ r. ⌜ (r .failed ≡ false → ReadOn (held (now (line .entry)) 0 1 (now (register .entry))) (held (now (line .exit)) (r .kept) (r .number) (now (register .exit))) (r .ended) 0) ⌝ }
 {
+    let mut chunk = io::large_buffer();
     let mut place = Place {
         kept: 0,
         number: 1,
@@ -210,7 +210,8 @@ fn read_all(line: &mut [u8], register: &mut [u8]) -> Place
     };
     let mut turns = u64::MAX;
     while turns > 0 && !place.ended && !place.failed {
-        place = read_some(line, register, place);
+        let got = libc::read(STDIN_FILENO, &mut chunk);
+        place = take_read(got, &chunk, line, register, place);
         turns -= 1;
     }
     place

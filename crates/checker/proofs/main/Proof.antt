@@ -5,7 +5,7 @@ use borrow.Author.Tests.{not-true}
 use borrow.Author.Needs.{needs}
 
 finish-requires : tie.Need-finish-requires
-finish-requires c κs = (record { for-line = search needs; for-answer = search needs }, from-start ((c .before .before .before .before .before .before .before .before .before .before .empty-register) .ensures) ((c .before .before .before .before .before .before .before .read-all) .ensures (not-true _ ((c .before .before .before .if1) .taken))))
+finish-requires c κs = (record { for-line = search needs; for-answer = search needs }, from-start ((c .before .before .before .before .before .before .before .before .before .before .empty-register) .ensures) ((c .before .before .before .before .before .before .before .read-all) .ensures (not-true _ ((c .before .before .before .if1) .taken)) .reached))
 
 pub main-spec : {M : Type 1} → statement M
 main-spec =

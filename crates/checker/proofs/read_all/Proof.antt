@@ -1,33 +1,52 @@
 use Rattle.checker.proofs.read_all.Statement.{statement}
 use Rattle.checker.proofs.read_all.Tie as tie
-use Rattle.checker.proofs.ProgressLaws.{stays, leads}
-use Rattle.checker.specs.Progress.{held, room, Reached}
-use mathlib.Core.Path.{_≡_, refl}
-use mathlib.Core.Bool.{false}
+use Rattle.checker.proofs.ProgressLaws.{on-start, on-more, on-done, on-ended}
+use Rattle.checker.specs.Progress.{held, room, ReadOn}
+use mathlib.Core.Path.{_≡_, _∙_, refl, sym}
+use mathlib.Core.Bool.{false, true≢false}
 use lib.ListN.{length}
-use borrow.Author.Tests.{not-true}
+use borrow.Author.Tests.{not-true, not-false}
 use borrow.Author.Needs.{needs}
+use native.Mathlib.Omega.{arith}
 use Rattle.checker.proofs.read_all.Reads as reads
 use Rattle.checker.proofs.read_all.Lts as lts
-use Rattle.checker.proofs.read_some.Reads as read-some-reads
+use Rattle.checker.proofs.take_read.Reads as take-read-reads
+use Rattle.io.proofs.large_buffer.Reads as large-buffer-reads
+use Rattle.libc.proofs.read.Reads as read-reads
 
 abbrev Inv-loop : tie.InvT-loop
-Inv-loop line₀ register₀ place₀ turns₀ line register place turns =
-    (place .failed ≡ false → Reached (held line₀ 0 1 register₀) (held line (place .kept) (place .number) register))
-    × ((length line ≡ room) × (length register ≡ length register₀))
+Inv-loop line₀ register₀ chunk₀ place₀ turns₀ line register chunk place turns =
+    (place .failed ≡ false → ReadOn (held line₀ 0 1 register₀) (held line (place .kept) (place .number) register) (place .ended) turns)
+    × ((length line ≡ room) × ((length register ≡ length register₀) × (length chunk ≡ length chunk₀)))
 
 abbrev μ-loop : tie.MeasureT-loop
-μ-loop line₀ register₀ place₀ turns₀ line register place turns = turns
+μ-loop line₀ register₀ chunk₀ place₀ turns₀ line register chunk place turns = turns
+
+-- src/main.rt:204:21
+large-buffer-requires : tie.Need-large-buffer-requires Inv-loop μ-loop
+large-buffer-requires c κs = search needs
 
 -- src/main.rt:212:5
 loop-holds : tie.Need-loop-holds Inv-loop μ-loop
-loop-holds c = (λ f. stays, ((c .before .before .pre), refl))
+loop-holds c = (λ f. on-start, ((c .before .before .before .pre), (refl, refl)))
 
--- src/main.rt:213:9
-read-some-requires : tie.Need-read-some-requires Inv-loop μ-loop
-read-some-requires c κs = search needs
+-- src/main.rt:213:44
+slice-aggregate-read : tie.Need-slice-aggregate-read Inv-loop μ-loop
+slice-aggregate-read c = search needs
+
+-- src/main.rt:213:13
+read-requires : tie.Need-read-requires Inv-loop μ-loop
+read-requires c κs = search needs
+
+-- src/main.rt:214:32
+slice-aggregate-take-read : tie.Need-slice-aggregate-take-read Inv-loop μ-loop
+slice-aggregate-take-read c = search needs
 
 -- src/main.rt:214:9
+take-read-requires : tie.Need-take-read-requires Inv-loop μ-loop
+take-read-requires c κs = search needs
+
+-- src/main.rt:215:9
 sub-turns : tie.Need-sub-turns Inv-loop μ-loop
 sub-turns c = search needs
 
@@ -37,43 +56,43 @@ loop-less c = search needs
 
 -- src/main.rt:212:5
 loop-again : tie.Need-loop-again Inv-loop μ-loop
-loop-again c = (λ f. leads ((c .before .before .before .before .before .before .before .before .before .before .before .before .loop) .inv .0 (not-true _ ((c .before .before .before .before .before .before .before .if2) .taken))) (((c .before .before .before .before .read-some) .ensures) f), (search needs, search needs))
+loop-again c = (λ f. on-more ((c .before .before .before .before .before .before .before .before .before .before .before .before .before .before .before .before .loop) .inv .0 (not-true _ ((c .before .before .before .before .before .before .before .before .before .before .before .if2) .taken))) ((c .before .before .before .before .before .before .before .before .before .before .before .before .before .before .before .loop-test) .taken) (not-true _ ((c .before .before .before .before .before .before .before .before .before .before .before .before .before .if1) .taken)) f ((c .before .before .before .before .take-read) .ensures), (search needs, (search needs, search needs)))
 
--- src/main.rt:201:1
+-- src/main.rt:200:1
 same-length : tie.Need-same-length Inv-loop μ-loop
 same-length c = search needs
 
--- src/main.rt:201:1
+-- src/main.rt:200:1
 same-length-2 : tie.Need-same-length-2 Inv-loop μ-loop
 same-length-2 c = search needs
 
--- src/main.rt:201:1
+-- src/main.rt:200:1
 returns : tie.Need-returns Inv-loop μ-loop
-returns c = (c .before .before .before .before .before .loop) .inv .0
+returns c = λ f. absurd (true≢false (sym (not-false _ ((c .if2) .left)) ∙ f))
 
--- src/main.rt:201:1
+-- src/main.rt:200:1
 same-length-3 : tie.Need-same-length-3 Inv-loop μ-loop
 same-length-3 c = search needs
 
--- src/main.rt:201:1
+-- src/main.rt:200:1
 same-length-4 : tie.Need-same-length-4 Inv-loop μ-loop
 same-length-4 c = search needs
 
--- src/main.rt:201:1
+-- src/main.rt:200:1
 returns-2 : tie.Need-returns-2 Inv-loop μ-loop
-returns-2 c = (c .before .before .before .loop) .inv .0
+returns-2 c = λ f. on-ended ((c .before .before .before .loop) .inv .0 f) (not-false _ ((c .if1) .left))
 
--- src/main.rt:201:1
+-- src/main.rt:200:1
 same-length-5 : tie.Need-same-length-5 Inv-loop μ-loop
 same-length-5 c = search needs
 
--- src/main.rt:201:1
+-- src/main.rt:200:1
 same-length-6 : tie.Need-same-length-6 Inv-loop μ-loop
 same-length-6 c = search needs
 
--- src/main.rt:201:1
+-- src/main.rt:200:1
 returns-3 : tie.Need-returns-3 Inv-loop μ-loop
-returns-3 c = (c .before .loop) .inv .0
+returns-3 c = λ f. on-done ((c .before .loop) .inv .0 f) (omega arith)
 
 pub read-all-spec : {M : Type 1} → statement M
 read-all-spec =
@@ -81,8 +100,12 @@ read-all-spec =
     (tie.spec
     Inv-loop
     μ-loop
+    large-buffer-requires
     loop-holds
-    read-some-requires
+    slice-aggregate-read
+    read-requires
+    slice-aggregate-take-read
+    take-read-requires
     sub-turns
     loop-less
     loop-again

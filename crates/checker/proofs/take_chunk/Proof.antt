@@ -1,10 +1,9 @@
 use Rattle.checker.proofs.take_chunk.Statement.{statement}
 use Rattle.checker.proofs.take_chunk.Tie as tie
-use Rattle.checker.proofs.ProgressLaws.{TakenSoFar, taken-start, taken-on, taken-less, taken-all}
+use Rattle.checker.proofs.ProgressLaws.{TakenSoFar, taken-start, taken-on, taken-less, taken-all, taken-failed}
 use Rattle.checker.specs.Progress.{held, room}
 use Rattle.checker.specs.Printed.{longest}
-use mathlib.Core.Path.{_≡_, _∙_, refl, sym}
-use mathlib.Core.Bool.{true≢false}
+use mathlib.Core.Path.{_≡_, refl}
 use lib.ListN.{length}
 use Prim.Native.Nat.{_-_}
 use borrow.Author.Needs.{needs}
@@ -71,7 +70,7 @@ same-length-2 c = search needs
 
 -- src/main.rt:165:13
 returns : tie.Need-returns Inv-loop μ-loop
-returns c = λ f. absurd (true≢false (sym ((c .broken-off) .ensures) ∙ f))
+returns c = taken-failed ((c .broken-off) .ensures)
 
 -- src/main.rt:169:9
 add-at : tie.Need-add-at Inv-loop μ-loop
@@ -95,7 +94,7 @@ same-length-4 c = search needs
 
 -- src/main.rt:154:1
 returns-2 : tie.Need-returns-2 Inv-loop μ-loop
-returns-2 c = λ f. taken-all ((c .before .loop) .inv .0) (omega arith)
+returns-2 c = taken-all ((c .before .loop) .inv .0) (omega arith)
 
 pub take-chunk-spec : {M : Type 1} → statement M
 take-chunk-spec =
