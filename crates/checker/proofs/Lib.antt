@@ -6,4 +6,5 @@ mod AnswerLaws
 mod ProgressLaws
 mod Enough
 mod Program
+mod Example
 mod Setting
