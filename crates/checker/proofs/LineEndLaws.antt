@@ -11,7 +11,7 @@ use lib.Seq.{take-suc}
 use borrow.Author.Tests.{eq-eqb, ne-eqb, eqb-true}
 use Rattle.text.proofs.Bools.{by-test}
 use Rattle.text.proofs.Lists.{rest-at}
-use Rattle.checker.specs.Progress.{lineEnd, upToEnd}
+use Rattle.checker.specs.Progress.{lineEnd}
 
 -- no LF stands before place i
 pub record NoEndSoFar (s : List ℕ) (i : ℕ) : Type 0 where
@@ -60,10 +60,3 @@ end-is (b ∷ s) h =
 -- up to an LF, and with it
 pub with-end : (s : List ℕ) → lineEnd s < length s → take (lineEnd s + 1) s ≡ take (lineEnd s) s ++ (10 ∷ [])
 with-end s h = rw (add-one, take-suc s (lineEnd s) 0) (ap (λ (b : ℕ). take (lineEnd s) s ++ (b ∷ [])) (end-is s h))
-
--- a turn takes no more than there is, and something where there is something
-pub up-within : (s : List ℕ) → upToEnd s ≤ length s
-up-within s = omega arith
-
-pub up-some : (s : List ℕ) → 0 < length s → 0 < upToEnd s
-up-some s h = omega arith

@@ -1,7 +1,7 @@
 -- Whatever pieces the input comes in, what the program's functions hand to the write is, joined, what the paper has it write.
 use mathlib.Core.Path.{_≡_, _∙_, refl, sym, ap}
 use mathlib.Core.Bool.{Bool, true, false, cond}
-use mathlib.Core.List.{List, [], _∷_, _++_, append-nil, append-assoc}
+use mathlib.Core.List.{List, [], _∷_, _++_, flatten, append-nil, append-assoc}
 use Prim.Native.Nat.{ℕ, _+_, _≤_, _<_}
 use native.Mathlib.Omega.{arith}
 use lib.Dec.{eqb, leb, ltb}
@@ -18,7 +18,7 @@ use Rattle.checker.specs.Bare.{bare}
 use Rattle.checker.specs.Lines.{unended, linesFrom}
 use Rattle.checker.specs.Printed.{answerTo}
 use Rattle.checker.specs.Program.{judged, answers, programWrites}
-use Rattle.checker.specs.Progress.{Progress, progress, held, start, told, left, room, raised, ended, more, step, said, after, writes, lastAnswer, Advanced, Run, begins, turn}
+use Rattle.checker.specs.Progress.{Progress, progress, held, start, told, left, room, raised, ended, more, step, said, after, writes, lastAnswer, writesAll, Run, begins, turn}
 use Rattle.checker.proofs.ProgressLaws.{after-append, writes-append}
 use Rattle.checker.proofs.Enough.{kept-ended, kept-last}
 use Rattle.checker.proofs.advance.Kinds as advance-kinds
@@ -117,6 +117,18 @@ pub input-written : (input : List ℕ) → length input < 18446744073709551615 �
 unfolding programWrites
 input-written input h = all-written input [] 1 emptyRegister (omega arith) (omega arith)
 
+by-chunks : (p : Progress) (chunks : List (List ℕ)) → writesAll p chunks ≡ total p (flatten chunks)
+unfolding after writes flatten writesAll
+by-chunks p [] = refl
+by-chunks p (chunk ∷ chunks) =
+    ap (λ (l : List ℕ). writes p chunk ++ l) (by-chunks (after p chunk) chunks)
+    ∙ sym (append-assoc (writes p chunk) (writes (after p chunk) (flatten chunks)) (lastAnswer (after (after p chunk) (flatten chunks))))
+    ∙ (λ i. sym (writes-append p chunk (flatten chunks)) i ++ lastAnswer (sym (after-append p chunk (flatten chunks)) i))
+
+-- Every way to cut an input into chunks: all that is written is what the program writes for the whole.
+pub any-cut : (chunks : List (List ℕ)) → length (flatten chunks) < 18446744073709551615 → writesAll start chunks ≡ programWrites (flatten chunks)
+any-cut chunks h = by-chunks start chunks ∙ input-written (flatten chunks) h
+
 -- what turns leave does not depend on how the bytes were cut
 pub record Followed (taken : List ℕ) (p : Progress) (output : List ℕ) : Type 0 where
   pub stands : p ≡ after start taken
@@ -151,6 +163,13 @@ pub turns :
     → Run taken (held (a .1 .0 .now) (a .1 .1 .1 .0) (a .1 .1 .1 .1 .0) (a .1 .1 .0 .now)) output
     → Run (taken ++ take (x .used) (a .0 .now)) (held (s .1 .0 .now) (x .kept) (x .number) (s .1 .1 .0 .now)) (output ++ take (x .written) (s .1 .1 .1 .1 .1 .0 .now))
 turns κs a x s post run = turn run post
+
+-- It takes some of the bytes that there are, and no more, so that turns come to the end of a chunk.
+pub turn-takes :
+    (κs : Lfts 4) (a : Dens κs advance-kinds.ps) (x : resT advance-kinds.r κs .Denot) (s : AtExit (endedOf 4 advance-kinds.ps advance-kinds.r) κs)
+    → advance-reads.Post κs a x s → 0 < length (a .0 .now)
+    → (0 < x .used) × (x .used ≤ length (a .0 .now))
+turn-takes κs a x s post h = (omega (arith, post .takes), omega (arith, post .takes))
 
 -- A call of `finish` ends the run: by its contract, all that was put is what the program writes for the input.
 pub ends :

@@ -69,6 +69,11 @@ writes p (b ∷ s) = said p b ++ writes (step p b) s
 abbrev pub lastAnswer : Progress → List ℕ
 lastAnswer p = cond (ltb 0 (length (p .begun))) (told (p .number) (p .begun) (p .register)) []
 
+-- all that is written for an input that comes in chunks, and at its end
+unfoldable pub writesAll : Progress → List (List ℕ) → List ℕ
+writesAll p [] = lastAnswer p
+writesAll p (chunk ∷ chunks) = writes p chunk ++ writesAll (after p chunk) chunks
+
 -- the place of the first LF, or the length
 unfoldable pub lineEnd : List ℕ → ℕ
 lineEnd [] = 0
