@@ -1,2 +1,3 @@
--- What the C function's contract leaves open: nothing.
+-- What the C function promises: what `judge` does, which leaves nothing open.
+mod SameContract
 mod Unique

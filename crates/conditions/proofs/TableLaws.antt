@@ -20,7 +20,7 @@ use Rattle.register.proofs.TableLaws.{look-put, count-put, length-put}
 use Rattle.facts.specs.Words.{isLive, isAbsent, isCancelled}
 use Rattle.facts.specs.Rules.{isNew}
 use Rattle.verdict.specs.Verdict.{bit}
-use Rattle.clause7.specs.History.{Answered, accepted, Pair, pairIn, samePair, Last, Never, New, Cancelling, ever, wasNew, wasCxl, kindOf, lastAccepted, pairsAccepted, shaped, bytesOf}
+use Rattle.conditions.specs.Condition3.{Answered, accepted, Pair, pairIn, samePair, Last, Never, New, Cancelling, ever, wasNew, wasCxl, kindOf, lastAccepted, pairsAccepted, shaped, bytesOf}
 
 -- what a pair's row keeps once its line was accepted: the state, and behind it what a wider row has more
 abbrev pub valueOf : List ℕ → List ℕ → List ℕ

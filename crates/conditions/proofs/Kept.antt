@@ -14,8 +14,8 @@ use Rattle.register.specs.declared.rows.Found.the-variants.{Nowhere}
 use Rattle.register.proofs.PairLaws.{Shaped, pair-length}
 use Rattle.register.proofs.RowLaws.{rows-counted}
 use Rattle.register.proofs.PutLaws.{put-rows, put-framed, put-capacity}
-use Rattle.clause7.specs.History.{Answered, accepted, Pair, pairIn, lastAccepted, pairsAccepted, bytesOf}
-use Rattle.clause7.proofs.TableLaws.{valueOf, rowsFor, AllShaped, none, more, stateFor, look-last, length-last}
+use Rattle.conditions.specs.Condition3.{Answered, accepted, Pair, pairIn, lastAccepted, pairsAccepted, bytesOf}
+use Rattle.conditions.proofs.TableLaws.{valueOf, rowsFor, AllShaped, none, more, stateFor, look-last, length-last}
 
 module _ (version n : ℕ) (stamp : List ℕ) where
   pub record Kept (c : ℕ) (history : List Answered) (register : List ℕ) : Type 0 where

@@ -8,7 +8,7 @@ use Rattle.register.specs.Pair.{pairBytes}
 use Rattle.facts.specs.Call.{Call, call}
 use Rattle.verdict.specs.declared.Verdict.{Verdict}
 use Rattle.judge.specs.Outcome.{Outcome, outcome}
-use Rattle.clause7.specs.History.{Answered}
+use Rattle.conditions.specs.Condition3.{Answered}
 
 abbrev pub lei : List ℕ
 lei = ascii "LEI" ++ (1 ∷ 0 ∷ 1 ∷ 0 ∷ 0 ∷ 0 ∷ (ascii "00000000000000000098" ++ (1 ∷ 1 ∷ 135 ∷ 236 ∷ 51 ∷ 1 ∷ 135 ∷ 236 ∷ 51 ∷ 1 ∷ [])))

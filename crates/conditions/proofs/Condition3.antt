@@ -25,11 +25,11 @@ use Rattle.verdict.proofs.OrderLaws.{pick-once}
 use Rattle.verdict.proofs.Promises.{codes-rise, code-count}
 use Rattle.judge.specs.Refusal.{allFlags, clean, noRoom}
 use Rattle.judge.specs.Outcome.{written, Outcome, refusedOutcome, judgedOutcome, outcome, Judged}
-use Rattle.clause7.specs.History.{Answered, accepted, pairIn, Last, ever, wasNew, wasCxl, lastAccepted, pairsAccepted, Run, start, next, Stands, reached, listed, Follows, Condition3}
-use Rattle.clause7.proofs.LineLaws.{Known, new-known, cxl-known, good-shaped, no-flag, clean-shaped, clean-cxl}
-use Rattle.clause7.proofs.TableLaws.{stateFor, live-is, absent-is, cancelled-is, count-last, shaped-is, ever-shaped}
-use Rattle.clause7.proofs.CallLaws.{Way, refused, stuck, heard, way, Sound, sound, written-is, no-row-room}
-use Rattle.clause7.proofs.Kept.{Kept, kept-start, stands-as, used-is, full-is, kept-same, kept-put}
+use Rattle.conditions.specs.Condition3.{Answered, accepted, pairIn, Last, ever, wasNew, wasCxl, lastAccepted, pairsAccepted, Run, start, next, Stands, reached, listed, Follows, Condition3}
+use Rattle.conditions.proofs.LineLaws.{Known, new-known, cxl-known, good-shaped, no-flag, clean-shaped, clean-cxl}
+use Rattle.conditions.proofs.TableLaws.{stateFor, live-is, absent-is, cancelled-is, count-last, shaped-is, ever-shaped}
+use Rattle.conditions.proofs.CallLaws.{Way, refused, stuck, heard, way, Sound, sound, written-is, no-row-room}
+use Rattle.conditions.proofs.Kept.{Kept, kept-start, stands-as, used-is, full-is, kept-same, kept-put}
 
 -- a register of version 1
 abbrev Kept₁ : ℕ → List Answered → List ℕ → Type 0

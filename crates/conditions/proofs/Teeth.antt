@@ -20,10 +20,10 @@ use Rattle.facts.specs.Words.{isLive}
 use Rattle.facts.specs.Rules.{isNew, pairStands}
 use Rattle.verdict.specs.declared.Verdict.{Verdict}
 use Rattle.judge.specs.Outcome.{Outcome, outcome, Judged}
-use Rattle.clause7.specs.History.{Answered, accepted, Pair, pairIn, samePair, New, Cancelling, wasNew, lastAccepted, Empty, Run, next, bytesOf}
-use Rattle.clause7.proofs.TableLaws.{is-shaped}
-use Rattle.clause7.proofs.CallLaws.{Sound, sound}
-use Rattle.clause7.proofs.Condition3.{condition3, accepted-clear}
+use Rattle.conditions.specs.Condition3.{Answered, accepted, Pair, pairIn, samePair, New, Cancelling, wasNew, lastAccepted, Empty, Run, next, bytesOf}
+use Rattle.conditions.proofs.TableLaws.{is-shaped}
+use Rattle.conditions.proofs.CallLaws.{Sound, sound}
+use Rattle.conditions.proofs.Condition3.{condition3, accepted-clear}
 
 -- an empty register with room for c rows: the head, and 74 bytes for each row
 unfoldable pub fresh : ℕ → List ℕ

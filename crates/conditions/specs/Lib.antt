@@ -1,3 +1,3 @@
 -- Condition 3 over any sequence of calls.
-pub mod History
+pub mod Condition3
 pub mod Afternoon

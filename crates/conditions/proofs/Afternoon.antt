@@ -4,9 +4,9 @@ use mathlib.Core.Path.{_≡_, refl, sym, ap}
 use mathlib.Core.List.{List, [], _∷_}
 use lib.Dec.{lit≤}
 use lib.ListN.{replicate}
-use Rattle.clause7.specs.History.{Answered, Run, start, next}
-use Rattle.clause7.specs.Afternoon.{at, cancels, reports, other, none, holding, accepting, finding, refusing, leaves, answered, history, Afternoon}
-use Rattle.clause7.proofs.Teeth.{fresh, empty}
+use Rattle.conditions.specs.Condition3.{Answered, Run, start, next}
+use Rattle.conditions.specs.Afternoon.{at, cancels, reports, other, none, holding, accepting, finding, refusing, leaves, answered, history, Afternoon}
+use Rattle.conditions.proofs.Teeth.{fresh, empty}
 use Rattle.text.specs.Class.{allOf}
 use Rattle.text.specs.FirstFrom.{firstFrom}
 use Rattle.text.specs.Number.{digitOf, numeral, numberOf, twoDigits, fourDigits}

@@ -25,9 +25,9 @@ use Rattle.facts.specs.Rules.{isNew, pairStands, standingOf, flags}
 use Rattle.judge.specs.Refusal.{allFlags, clean, early, notWhole, noRoom}
 use Rattle.judge.specs.Outcome.{pairOf, written, refusedOutcome, judgedOutcome, outcome}
 use Rattle.judge.proofs.Cases.{out-early, out-ten, out-eleven, out-judged}
-use Rattle.clause7.specs.History.{reached}
-use Rattle.clause7.proofs.LineLaws.{no-flag, clean-4, clean-2, clean-shaped, clean-cxl}
-use Rattle.clause7.proofs.TableLaws.{valueOf}
+use Rattle.conditions.specs.Condition3.{reached}
+use Rattle.conditions.proofs.LineLaws.{no-flag, clean-4, clean-2, clean-shaped, clean-cxl}
+use Rattle.conditions.proofs.TableLaws.{valueOf}
 
 -- refused by 1 to 10, refused by 11, or judged
 pub data Way (c : Call) (room : ℕ) : Type 0 where
