@@ -1,31 +1,35 @@
 -- One call: the ways in which it can end, and what an accepted line does to the register.
 use mathlib.Core.Path.{_≡_, _∙_, refl, sym, ap}
-use mathlib.Core.Bool.{Bool, true, false, not, true≢false}
-use mathlib.Core.List.{List, [], _∷_}
-use Prim.Native.Nat.{ℕ, suc, _+_, _≤_}
+use mathlib.Core.Bool.{true, false, cond, not, true≢false}
+use mathlib.Core.List.{List, []}
+use Prim.Native.Nat.{ℕ, _≤_}
 use native.Mathlib.Omega.{arith}
 use borrow.Author.Tests.{eqb-true, eqb-false}
 use lib.Dec.{eqb, lit<}
-use lib.ListN.{length}
 use Rattle.text.specs.FirstFrom.{firstFrom}
 use Rattle.text.proofs.Bools.{by-test}
 use Rattle.cells.specs.Cells.{cell}
-use Rattle.register.specs.Frame.{full}
-use Rattle.register.specs.Rows.{firstRow, standing, standingAt}
+use Rattle.register.specs.Frame.{framed, full}
+use Rattle.register.specs.Rows.{rowsOf, firstRow, standing, standingAt}
+use Rattle.register.specs.Table.{putRow}
 use Rattle.register.specs.Written.{put}
+use Rattle.register.specs.declared.rows.Found.{Found}
 use Rattle.register.specs.declared.rows.Found.the-variants.{Nowhere}
 use Rattle.register.specs.declared.rows.Standing.{Standing}
 use Rattle.register.specs.declared.rows.Standing.the-variants.{Absent, Live, Cancelled}
-use Rattle.register.proofs.PairLaws.{Shaped}
+use Rattle.register.proofs.Words.{same-refl}
+use Rattle.register.proofs.PairLaws.{Shaped, pair-length}
 use Rattle.register.proofs.RowLaws.{standing-found}
-use Rattle.register.proofs.PutLaws.{cancelled-put}
+use Rattle.register.proofs.PutLaws.{put-framed, put-rows, cancelled-put}
+use Rattle.register.proofs.TableLaws.{look-put}
 use Rattle.facts.specs.Call.{Call}
 use Rattle.facts.specs.Words.{isLive, isAbsent, isCancelled}
 use Rattle.facts.specs.Rules.{isNew, pairStands, standingOf, flags}
 use Rattle.judge.specs.Refusal.{allFlags, clean, early, notWhole, noRoom}
 use Rattle.judge.specs.Outcome.{pairOf, written, refusedOutcome, judgedOutcome, outcome}
+use Rattle.judge.proofs.Firsts.{first-small}
 use Rattle.judge.proofs.Cases.{out-early, out-ten, out-eleven, out-judged}
-use Rattle.conditions.specs.Condition3.{reached}
+use Rattle.conditions.specs.Condition1.{reached}
 use Rattle.conditions.proofs.LineLaws.{no-flag, clean-4, clean-2, clean-shaped, clean-cxl}
 use Rattle.conditions.proofs.TableLaws.{valueOf}
 
@@ -34,12 +38,6 @@ pub data Way (c : Call) (room : ℕ) : Type 0 where
   refused : (m : ℕ) → (m ≡ 0 → ⊥) → (m ≡ 11 → ⊥) → reached c room ≡ false → outcome c room ≡ refusedOutcome c m → Way c room
   stuck : reached c room ≡ true → noRoom c ≡ true → outcome c room ≡ refusedOutcome c 11 → Way c room
   heard : reached c room ≡ true → noRoom c ≡ false → outcome c room ≡ judgedOutcome c → Way c room
-
-first-small : (n : ℕ) (tests : List Bool) → firstFrom (suc n) tests ≤ n + length tests
-unfolding firstFrom
-first-small n [] = omega arith
-first-small n (true ∷ tests) = omega arith
-first-small n (false ∷ tests) = omega (arith, first-small (suc n) tests)
 
 module _ (c : Call) (room : ℕ) where
   pub way : Way c room
@@ -131,3 +129,17 @@ module _ (c : Call) (s : Sound c) where
 
   pub no-row-room : firstRow 1 0 (c .register) (pairOf (c .line)) ≡ Nowhere → full 0 (c .register) ≡ false
   no-row-room e = s .roomy (ap isAbsent (absent e))
+
+  -- so that the pair stands as the line says
+  pub stands-after : framed 1 0 (c .register) ≡ true → pairStands (written (c .line) (c .register)) (c .line) ≡ cond (isNew (c .line)) Live Cancelled
+  unfolding pairStands standing
+  stands-after f =
+      let pair : List ℕ = pairOf (c .line) in
+      let value : List ℕ = valueOf [] (c .line) in
+      let row : Found = firstRow 1 0 (c .register) pair in
+      let rows : rowsOf 0 (put 1 0 (c .register) row pair value) ≡ putRow (rowsOf 0 (c .register)) pair value =
+      put-rows 1 0 (c .register) pair value f (pair-length (cell (c .line) 4) (cell (c .line) 2)) refl no-row-room
+      in
+      ap (λ r. standing 1 0 r pair) written-is
+      ∙ rw (put-framed 1 0 (c .register) row pair value, f, rows, look-put (rowsOf 0 (c .register)) pair value pair, same-refl pair)
+      (by-test (isNew (c .line)) (λ t. rw t) (λ t. rw t))

@@ -1,13 +1,12 @@
 -- Condition 3, by induction over the run: the used rows are those that the history leaves.
 use mathlib.Core.Path.{_≡_, _∙_, refl, sym, ap, subst}
 use mathlib.Core.Bool.{Bool, true, false, cond, not, _&&_, _||_, true≢false}
-use mathlib.Core.List.{List, [], _∷_}
-use Prim.Native.Nat.{ℕ, _<_}
+use mathlib.Core.List.{List, [], _∷_, List·Memᴰ as Among, List·Memᴰ·head as here, List·Memᴰ·tail as there}
+use Prim.Native.Nat.{ℕ}
 use native.Mathlib.Omega.{arith}
 use borrow.Author.Tests.{ne-eqb}
-use lib.Dec.{eqb, lit<}
-use lib.ListN.{length, getD, drop}
-use lib.Seq.{take-append-seam}
+use lib.Dec.{eqb}
+use lib.ListN.{length}
 use Rattle.text.proofs.Bools.{by-test, and-left, and-right}
 use Rattle.cells.specs.Cells.{cell}
 use Rattle.forms.specs.Findings.{statusOf}
@@ -15,18 +14,17 @@ use Rattle.register.specs.Frame.{full}
 use Rattle.register.proofs.PairLaws.{Shaped}
 use Rattle.facts.specs.Call.{Call}
 use Rattle.facts.specs.Words.{isLive, isAbsent, isCancelled}
-use Rattle.facts.specs.Rules.{Rule, rule, OnNew, OnCxl, given, isNew, isCxl, good, pairStands, standingOf, flags}
+use Rattle.facts.specs.Rules.{Rule, rule, rules, OnNew, OnCxl, given, isNew, isCxl, good, pairStands, standingOf}
 use Rattle.verdict.specs.declared.Verdict.{Verdict}
-use Rattle.verdict.specs.Codes.{codes, ruleCodes, codeCount}
-use Rattle.verdict.specs.Verdict.{bit, codesFound, verdictOf, refusedBy}
-use Rattle.verdict.specs.Findings.{over}
+use Rattle.verdict.specs.Verdict.{bit, verdictOf, refusedBy}
 use Rattle.verdict.specs.Counted.{times}
-use Rattle.verdict.proofs.OrderLaws.{pick-once}
-use Rattle.verdict.proofs.Promises.{codes-rise, code-count}
 use Rattle.judge.specs.Refusal.{allFlags, clean, noRoom}
-use Rattle.judge.specs.Outcome.{written, Outcome, refusedOutcome, judgedOutcome, outcome, Judged}
-use Rattle.conditions.specs.Condition3.{Answered, accepted, pairIn, Last, ever, wasNew, wasCxl, lastAccepted, pairsAccepted, Run, start, next, Stands, reached, listed, Follows, Condition3}
-use Rattle.conditions.proofs.LineLaws.{Known, new-known, cxl-known, good-shaped, no-flag, clean-shaped, clean-cxl}
+use Rattle.judge.specs.Outcome.{written, Outcome, refusedOutcome, outcome, Judged}
+use Rattle.conditions.specs.Condition1.{reached}
+use Rattle.conditions.specs.Condition2.{accepted, listed}
+use Rattle.conditions.specs.Condition3.{Answered, pairIn, Last, ever, wasNew, wasCxl, lastAccepted, pairsAccepted, Run, start, next, Stands, Follows, Condition3}
+use Rattle.conditions.proofs.LineLaws.{Known, new-known, cxl-known, good-shaped, clean-shaped, clean-cxl}
+use Rattle.conditions.proofs.FoundLaws.{rule-once, clean-rule, listed-found}
 use Rattle.conditions.proofs.TableLaws.{stateFor, live-is, absent-is, cancelled-is, count-last, shaped-is, ever-shaped}
 use Rattle.conditions.proofs.CallLaws.{Way, refused, stuck, heard, way, Sound, sound, written-is, no-row-room}
 use Rattle.conditions.proofs.Kept.{Kept, kept-start, stands-as, used-is, full-is, kept-same, kept-put}
@@ -45,14 +43,13 @@ module _ {c : ℕ} {history : List Answered} {register : List ℕ} (k : Kept₁ 
         live = λ p e. ap isLive (stands-as 1 0 [] k p (shaped-is p e)) ∙ live-is (lastAccepted history p);
       }
 
-module _ (line : List ℕ) where
-  refused-not : (verdict : Verdict) (m : ℕ) → (m ≡ 0 → ⊥) → verdict ≡ refusedBy m → accepted (record { line = line; verdict = verdict }) ≡ false
-  unfolding refusedBy
-  refused-not verdict m h e = ap (λ (v : Verdict). accepted (record { line = line; verdict = v })) e ∙ rw (ne-eqb m 0 h)
+refused-not : (verdict : Verdict) (m : ℕ) → (m ≡ 0 → ⊥) → verdict ≡ refusedBy m → accepted verdict ≡ false
+unfolding refusedBy
+refused-not verdict m h e = ap accepted e ∙ rw (ne-eqb m 0 h)
 
-  judged-clean : (verdict : Verdict) (call : Call) → verdict ≡ verdictOf (allFlags call) → accepted (record { line = line; verdict = verdict }) ≡ clean call
-  unfolding verdictOf clean
-  judged-clean verdict call e = ap (λ (v : Verdict). accepted (record { line = line; verdict = v })) e
+judged-clean : (verdict : Verdict) (call : Call) → verdict ≡ verdictOf (allFlags call) → accepted verdict ≡ clean call
+unfolding verdictOf clean
+judged-clean verdict call e = ap accepted e
 
 module _ {c : ℕ} {history : List Answered} (call : Call) {before findings left : List ℕ} {verdict : Verdict} (k : Kept₁ c history (call .register))
     (j : Judged (outcome call (length before)) before verdict findings left) where
@@ -62,12 +59,12 @@ module _ {c : ℕ} {history : List Answered} (call : Call) {before findings left
   abbrev After : List ℕ → Type 0
   After register = Kept₁ c (this ∷ history) register
 
-  stays : accepted this ≡ false → left ≡ call .register → After left
+  stays : accepted verdict ≡ false → left ≡ call .register → After left
   stays e r = subst (λ (x : List ℕ). After x) (sym r) (kept-same 1 0 [] k this e)
 
   refusal-kept : (m : ℕ) → (m ≡ 0 → ⊥) → outcome call (length before) ≡ refusedOutcome call m → After left
   refusal-kept m h o =
-      stays (refused-not (call .line) verdict m h (j .says ∙ ap (λ (x : Outcome). x .verdict) o)) (j .keeps ∙ ap (λ (x : Outcome). x .register) o)
+      stays (refused-not verdict m h (j .says ∙ ap (λ (x : Outcome). x .verdict) o)) (j .keeps ∙ ap (λ (x : Outcome). x .register) o)
 
   kept-way : Way call (length before) → After left
   kept-way (refused m h g r o) = refusal-kept m h o
@@ -79,8 +76,8 @@ module _ {c : ℕ} {history : List Answered} (call : Call) {before findings left
       (clean call)
       (λ e.
       let s : Sound call = sound call e t in
-      subst (λ (x : List ℕ). After x) (sym (keeps ∙ rw e (written-is call s))) (kept-put 1 0 [] k this (judged-clean (call .line) verdict call says ∙ e) (s .shape) refl (no-row-room call s)))
-      (λ e. stays (judged-clean (call .line) verdict call says ∙ e) (keeps ∙ rw e))
+      subst (λ (x : List ℕ). After x) (sym (keeps ∙ rw e (written-is call s))) (kept-put 1 0 [] k this (judged-clean verdict call says ∙ e) (s .shape) refl (no-row-room call s)))
+      (λ e. stays (judged-clean verdict call says ∙ e) (keeps ∙ rw e))
 
   kept-next : After left
   kept-next = kept-way (way call (length before))
@@ -91,13 +88,13 @@ kept (next call run j) = kept-next call (kept run) j
 
 -- an accepted line is clean, and its row had room
 module _ (call : Call) {before findings left : List ℕ} {verdict : Verdict} (j : Judged (outcome call (length before)) before verdict findings left)
-    (is-accepted : accepted (record { line = call .line; verdict = verdict }) ≡ true) where
+    (is-accepted : accepted verdict ≡ true) where
   clear-way : Way call (length before) → (clean call ≡ true) × (noRoom call ≡ false)
   clear-way (refused m h g r o) =
-      absurd (true≢false (sym is-accepted ∙ refused-not (call .line) verdict m h (j .says ∙ ap (λ (x : Outcome). x .verdict) o)))
+      absurd (true≢false (sym is-accepted ∙ refused-not verdict m h (j .says ∙ ap (λ (x : Outcome). x .verdict) o)))
   clear-way (stuck r t o) =
-      absurd (true≢false (sym is-accepted ∙ refused-not (call .line) verdict 11 (λ e. omega arith) (j .says ∙ ap (λ (x : Outcome). x .verdict) o)))
-  clear-way (heard r t o) = (sym (judged-clean (call .line) verdict call (j .says ∙ ap (λ (x : Outcome). x .verdict) o)) ∙ is-accepted, t)
+      absurd (true≢false (sym is-accepted ∙ refused-not verdict 11 (λ e. omega arith) (j .says ∙ ap (λ (x : Outcome). x .verdict) o)))
+  clear-way (heard r t o) = (sym (judged-clean verdict call (j .says ∙ ap (λ (x : Outcome). x .verdict) o)) ∙ is-accepted, t)
 
   pub accepted-clear : (clean call ≡ true) × (noRoom call ≡ false)
   accepted-clear = clear-way (way call (length before))
@@ -111,29 +108,17 @@ room-clean call t = and-left (clean call) (isNew (call .line) && (isAbsent (stan
 
 -- what a call lists of a rule: its code once if the call reaches the rules and the rule gives it
 module _ (call : Call) {before findings left : List ℕ} {verdict : Verdict} (j : Judged (outcome call (length before)) before verdict findings left)
-    (i code : ℕ) (r : Rule) (at : getD codes i 0 ≡ code) (within : i < codeCount) (flag : getD (allFlags call) i false ≡ given call r) where
-  none-listed : (m : ℕ) → outcome call (length before) ≡ refusedOutcome call m → listed code verdict findings ≡ 0
+    (r : Rule) (one : Among r rules) where
+  none-listed : (m : ℕ) → outcome call (length before) ≡ refusedOutcome call m → times (r .code) (listed verdict findings) ≡ 0
   unfolding refusedBy times
-  none-listed m o = ap (λ (v : Verdict). listed code v findings) (j .says ∙ ap (λ (x : Outcome). x .verdict) o)
+  none-listed m o = ap (λ (v : Verdict). times (r .code) (listed v findings)) (j .says ∙ ap (λ (x : Outcome). x .verdict) o)
 
-  all-listed : outcome call (length before) ≡ judgedOutcome call → listed code verdict findings ≡ bit (given call r)
-  unfolding verdictOf
-  all-listed o =
-      let found : List ℕ = codesFound (allFlags call) in
-      let says : verdict ≡ verdictOf (allFlags call) = j .says ∙ ap (λ (x : Outcome). x .verdict) o in
-      let lists : findings ≡ over found before = j .lists ∙ ap (λ (x : Outcome). over (x .listed) before) o in
-      (λ i. listed code (says i) (lists i))
-      ∙ ap (times code) (take-append-seam found (drop (length found) before))
-      ∙ ap (λ n. times n found) (sym at)
-      ∙ pick-once 0 codes (allFlags call) i codes-rise (omega (arith, code-count))
-      ∙ ap bit flag
-
-  rule-way : Way call (length before) → listed code verdict findings ≡ bit (reached call (length before) && given call r)
+  rule-way : Way call (length before) → times (r .code) (listed verdict findings) ≡ bit (reached call (length before) && given call r)
   rule-way (refused m h g e o) = none-listed m o ∙ rw e
-  rule-way (stuck e t o) = none-listed 11 o ∙ sym (rw e (ap bit (sym flag ∙ no-flag call (room-clean call t) i within)))
-  rule-way (heard e t o) = all-listed o ∙ rw e
+  rule-way (stuck e t o) = none-listed 11 o ∙ sym (rw e (ap bit (clean-rule call (room-clean call t) r one)))
+  rule-way (heard e t o) = ap (times (r .code)) (listed-found call j o) ∙ rule-once call r one ∙ rw e
 
-  rule-listed : listed code verdict findings ≡ bit (reached call (length before) && given call r)
+  rule-listed : times (r .code) (listed verdict findings) ≡ bit (reached call (length before) && given call r)
   rule-listed = rule-way (way call (length before))
 
 -- the three rules of the pair
@@ -200,13 +185,12 @@ module _ {c : ℕ} {history : List Answered} (call : Call) {before findings left
   eleven-way (heard e t o) = ap (λ (v : Verdict). eqb (v .answer) 11) (j .says ∙ ap (λ (x : Outcome). x .verdict) o) ∙ rw (e, t)
 
   follow : Follows c history call (length before) verdict findings
-  unfolding codes ruleCodes allFlags flags
   follow =
       let reach : Bool = reached call (length before) in
       record {
-        con023 = rule-listed call j 0 23 rule023 refl (lit< tt) refl ∙ ap (λ b. bit (reach && b)) is-023;
-        con024 = rule-listed call j 1 24 rule024 refl (lit< tt) refl ∙ ap (λ b. bit (reach && b)) is-024;
-        con025 = rule-listed call j 2 25 rule025 refl (lit< tt) refl ∙ ap (λ b. bit (reach && b)) is-025;
+        con023 = rule-listed call j rule023 (here refl) ∙ ap (λ b. bit (reach && b)) is-023;
+        con024 = rule-listed call j rule024 (there (here refl)) ∙ ap (λ b. bit (reach && b)) is-024;
+        con025 = rule-listed call j rule025 (there (there (here refl))) ∙ ap (λ b. bit (reach && b)) is-025;
         refusal11 = eleven-way (way call (length before)) ∙ ap (λ b. reach && b) no-room-is;
         kind = new-or-cxl call j;
       }

@@ -14,7 +14,8 @@ use Rattle.register.specs.declared.rows.Found.the-variants.{Nowhere}
 use Rattle.register.proofs.PairLaws.{Shaped, pair-length}
 use Rattle.register.proofs.RowLaws.{rows-counted}
 use Rattle.register.proofs.PutLaws.{put-rows, put-framed, put-capacity}
-use Rattle.conditions.specs.Condition3.{Answered, accepted, Pair, pairIn, lastAccepted, pairsAccepted, bytesOf}
+use Rattle.conditions.specs.Condition2.{accepted}
+use Rattle.conditions.specs.Condition3.{Answered, Pair, pairIn, lastAccepted, pairsAccepted, bytesOf}
 use Rattle.conditions.proofs.TableLaws.{valueOf, rowsFor, AllShaped, none, more, stateFor, look-last, length-last}
 
 module _ (version n : ℕ) (stamp : List ℕ) where
@@ -42,7 +43,7 @@ module _ (version n : ℕ) (stamp : List ℕ) where
     full-is = λ i. eqb (used-is i) (k .room i)
 
     -- a line that is not accepted leaves the register as it was, an accepted one puts its pair's row
-    pub kept-same : (a : Answered) → accepted a ≡ false → Kept c (a ∷ history) register
+    pub kept-same : (a : Answered) → accepted (a .verdict) ≡ false → Kept c (a ∷ history) register
     unfolding rowsFor
     kept-same a e =
         record {
@@ -52,7 +53,7 @@ module _ (version n : ℕ) (stamp : List ℕ) where
           shapes = more (λ t. absurd (true≢false (sym t ∙ e))) (k .shapes);
         }
 
-    module _ (a : Answered) (e : accepted a ≡ true) (s : Shaped (cell (a .line) 4) (cell (a .line) 2)) (l : length stamp ≡ n)
+    module _ (a : Answered) (e : accepted (a .verdict) ≡ true) (s : Shaped (cell (a .line) 4) (cell (a .line) 2)) (l : length stamp ≡ n)
         (left : firstRow version n register (bytesOf (pairIn (a .line))) ≡ Nowhere → full n register ≡ false) where
       abbrev pair : List ℕ
       pair = bytesOf (pairIn (a .line))

@@ -99,17 +99,20 @@ nothing : (l : List ℕ) → length l ≡ 0 → l ≡ []
 nothing [] e = refl
 nothing (x ∷ l) e = absurd (omega arith)
 
-bit-none : (b : Bool) → bit b ≡ 0 → b ≡ false
+pub bit-none : (b : Bool) → bit b ≡ 0 → b ≡ false
 bit-none false e = refl
 bit-none true e = absurd (omega arith)
 
 module _ (c : Call) (clear : clean c ≡ true) where
+  pub none-found : codesFound (allFlags c) ≡ []
+  unfolding clean
+  none-found = nothing (codesFound (allFlags c)) (eqb-true _ _ clear)
+
   pub no-flag : (i : ℕ) → i < codeCount → getD (allFlags c) i false ≡ false
-  unfolding clean times
+  unfolding times
   no-flag i h =
-      let none : codesFound (allFlags c) ≡ [] = nothing (codesFound (allFlags c)) (eqb-true _ _ clear) in
       bit-none (getD (allFlags c) i false)
-      (sym (pick-once 0 codes (allFlags c) i codes-rise (omega (arith, code-count))) ∙ ap (times (getD codes i 0)) none)
+      (sym (pick-once 0 codes (allFlags c) i codes-rise (omega (arith, code-count))) ∙ ap (times (getD codes i 0)) none-found)
 
   status-found : (status : Status) (s : List ℕ) → formFinding status 1 s ≡ false → Known status
   unfolding formFinding

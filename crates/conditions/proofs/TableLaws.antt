@@ -20,7 +20,8 @@ use Rattle.register.proofs.TableLaws.{look-put, count-put, length-put}
 use Rattle.facts.specs.Words.{isLive, isAbsent, isCancelled}
 use Rattle.facts.specs.Rules.{isNew}
 use Rattle.verdict.specs.Verdict.{bit}
-use Rattle.conditions.specs.Condition3.{Answered, accepted, Pair, pairIn, samePair, Last, Never, New, Cancelling, ever, wasNew, wasCxl, kindOf, lastAccepted, pairsAccepted, shaped, bytesOf}
+use Rattle.conditions.specs.Condition2.{accepted}
+use Rattle.conditions.specs.Condition3.{Answered, Pair, pairIn, samePair, Last, Never, New, Cancelling, ever, wasNew, wasCxl, kindOf, lastAccepted, pairsAccepted, shaped, bytesOf}
 
 -- what a pair's row keeps once its line was accepted: the state, and behind it what a wider row has more
 abbrev pub valueOf : List ℕ → List ℕ → List ℕ
@@ -30,13 +31,13 @@ valueOf stamp line = cond (isNew line) 1 2 ∷ stamp
 unfoldable pub rowsFor : List ℕ → List Answered → List Row
 rowsFor stamp [] = []
 rowsFor stamp (a ∷ earlier) =
-    cond (accepted a) (putRow (rowsFor stamp earlier) (bytesOf (pairIn (a .line))) (valueOf stamp (a .line))) (rowsFor stamp earlier)
+    cond (accepted (a .verdict)) (putRow (rowsFor stamp earlier) (bytesOf (pairIn (a .line))) (valueOf stamp (a .line))) (rowsFor stamp earlier)
 
 -- the pair of every accepted line has the right shape
 pub data AllShaped : List Answered → Type 0 where
   none : AllShaped []
   more :
-      {a : Answered} {earlier : List Answered} → (accepted a ≡ true → Shaped (cell (a .line) 4) (cell (a .line) 2)) → AllShaped earlier
+      {a : Answered} {earlier : List Answered} → (accepted (a .verdict) ≡ true → Shaped (cell (a .line) 4) (cell (a .line) 2)) → AllShaped earlier
       → AllShaped (a ∷ earlier)
 
 -- as which the register shows a pair
@@ -128,7 +129,7 @@ module _ (stamp : List ℕ) where
   look-last [] none p s = refl
   look-last (a ∷ h) (more g gs) p s =
       look-line stamp (a .line) (rowsFor stamp h) (lastAccepted h p) (bytesOf (pairIn (a .line))) (bytesOf p)
-      (accepted a) (samePair p (pairIn (a .line))) (λ t. same-key s (g t)) (look-last h gs p s)
+      (accepted (a .verdict)) (samePair p (pairIn (a .line))) (λ t. same-key s (g t)) (look-last h gs p s)
 
   pub holds-last :
       (history : List Answered) → AllShaped history → (p : Pair) → Shaped (p .entity) (p .reference)
@@ -137,7 +138,7 @@ module _ (stamp : List ℕ) where
   holds-last [] none p s = refl
   holds-last (a ∷ h) (more g gs) p s =
       holds-line stamp (a .line) (rowsFor stamp h) (lastAccepted h p) (bytesOf (pairIn (a .line))) (bytesOf p)
-      (accepted a) (samePair p (pairIn (a .line))) (λ t. same-key s (g t)) (holds-last h gs p s)
+      (accepted (a .verdict)) (samePair p (pairIn (a .line))) (λ t. same-key s (g t)) (holds-last h gs p s)
 
   pub count-last :
       (history : List Answered) → AllShaped history → (p : Pair) → Shaped (p .entity) (p .reference)
@@ -146,7 +147,7 @@ module _ (stamp : List ℕ) where
   count-last [] none p s = refl
   count-last (a ∷ h) (more g gs) p s =
       count-line stamp (a .line) (rowsFor stamp h) (lastAccepted h p) (bytesOf (pairIn (a .line))) (bytesOf p)
-      (accepted a) (samePair p (pairIn (a .line))) (λ t. same-key s (g t)) (holds-last h gs p s) (count-last h gs p s)
+      (accepted (a .verdict)) (samePair p (pairIn (a .line))) (λ t. same-key s (g t)) (holds-last h gs p s) (count-last h gs p s)
 
   length-line :
       (b : Bool) (line : List ℕ) (rows : List Row) (key : List ℕ) (last : Last) (n : ℕ) → (b ≡ true → holds rows key ≡ ever last) → length rows ≡ n
@@ -162,7 +163,7 @@ module _ (stamp : List ℕ) where
   unfolding rowsFor pairsAccepted
   length-last [] none = refl
   length-last (a ∷ h) (more g gs) =
-      length-line (accepted a) (a .line) (rowsFor stamp h) (bytesOf (pairIn (a .line))) (lastAccepted h (pairIn (a .line))) (pairsAccepted h)
+      length-line (accepted (a .verdict)) (a .line) (rowsFor stamp h) (bytesOf (pairIn (a .line))) (lastAccepted h (pairIn (a .line))) (pairsAccepted h)
       (λ t. holds-last h gs (pairIn (a .line)) (g t)) (length-last h gs)
 
 -- `shaped` in both directions
@@ -187,10 +188,10 @@ unfolding lastAccepted
 ever-shaped [] none p e = absurd (true≢false (sym e))
 ever-shaped (a ∷ h) (more g gs) p e =
     by-test
-    (accepted a && samePair p (pairIn (a .line)))
+    (accepted (a .verdict) && samePair p (pairIn (a .line)))
     (λ t.
-    let s : Shaped (cell (a .line) 4) (cell (a .line) 2) = g (and-left (accepted a) (samePair p (pairIn (a .line))) t) in
-    let m : samePair p (pairIn (a .line)) ≡ true = and-right (accepted a) (samePair p (pairIn (a .line))) t in
+    let s : Shaped (cell (a .line) 4) (cell (a .line) 2) = g (and-left (accepted (a .verdict)) (samePair p (pairIn (a .line))) t) in
+    let m : samePair p (pairIn (a .line)) ≡ true = and-right (accepted (a .verdict)) (samePair p (pairIn (a .line))) t in
     let one : cell (a .line) 4 ≡ p .entity = same-true _ _ (and-left (same (p .entity) (cell (a .line) 4)) (same (p .reference) (cell (a .line) 2)) m) in
     let two : cell (a .line) 2 ≡ p .reference = same-true _ _ (and-right (same (p .entity) (cell (a .line) 4)) (same (p .reference) (cell (a .line) 2)) m) in
     is-shaped {p = p} (rw (one, two) at s))

@@ -20,7 +20,8 @@ use Rattle.facts.specs.Words.{isLive}
 use Rattle.facts.specs.Rules.{isNew, pairStands}
 use Rattle.verdict.specs.declared.Verdict.{Verdict}
 use Rattle.judge.specs.Outcome.{Outcome, outcome, Judged}
-use Rattle.conditions.specs.Condition3.{Answered, accepted, Pair, pairIn, samePair, New, Cancelling, wasNew, lastAccepted, Empty, Run, next, bytesOf}
+use Rattle.conditions.specs.Condition2.{accepted}
+use Rattle.conditions.specs.Condition3.{Answered, Pair, pairIn, samePair, New, Cancelling, wasNew, lastAccepted, Empty, Run, next, bytesOf}
 use Rattle.conditions.proofs.TableLaws.{is-shaped}
 use Rattle.conditions.proofs.CallLaws.{Sound, sound}
 use Rattle.conditions.proofs.Condition3.{condition3, accepted-clear}
@@ -59,7 +60,7 @@ one-result p q = (same-both (p .says) (q .says), same-both (p .lists) (q .lists)
 -- an accepted line
 module _ {c : ℕ} {history : List Answered} (call : Call) {before findings left : List ℕ} {verdict : Verdict} (run : Run c history (call .register))
     (j : Judged (outcome call (length before)) before verdict findings left)
-    (is-accepted : accepted (record { line = call .line; verdict = verdict }) ≡ true) where
+    (is-accepted : accepted verdict ≡ true) where
   abbrev pair : Pair
   pair = pairIn (call .line)
 

@@ -6,8 +6,7 @@ use mathlib.Core.Path.{_≡_}
 use mathlib.Core.Bool.{Bool, true, false, cond, not, _&&_, _||_}
 use mathlib.Core.List.{List, [], _∷_}
 use lib.Dec.{eqb, leb}
-use lib.ListN.{length, take}
-use Rattle.text.specs.FirstFrom.{firstFrom}
+use lib.ListN.{length}
 use Rattle.text.specs.Word.{same}
 use Rattle.cells.specs.Cells.{cell}
 use Rattle.register.specs.Frame.{used, capacity, framed}
@@ -20,17 +19,15 @@ use Rattle.facts.specs.Rules.{isNew, isCxl, good}
 use Rattle.verdict.specs.declared.Verdict.{Verdict}
 use Rattle.verdict.specs.Verdict.{bit}
 use Rattle.verdict.specs.Counted.{times}
-use Rattle.judge.specs.Refusal.{clean, early, notWhole}
+use Rattle.judge.specs.Refusal.{clean}
 use Rattle.judge.specs.Outcome.{outcome, Judged}
+use Rattle.conditions.specs.Condition1.{reached}
+use Rattle.conditions.specs.Condition2.{accepted, listed}
 
 -- The history: lines with the verdicts that they got, the latest first. Nothing here knows of a register.
 pub record Answered : Type 0 where
   pub line : List ℕ
   pub verdict : Verdict
-
--- accepted: answer 0 and n = 0
-abbrev pub accepted : Answered → Bool
-accepted a = eqb (a .verdict .answer) 0 && eqb (a .verdict .count) 0
 
 -- a pair: executing entity and reference, cells 4 and 2
 pub record Pair : Type 0 where
@@ -70,12 +67,12 @@ kindOf line = cond (isNew line) New Cancelling
 
 unfoldable pub lastAccepted : List Answered → Pair → Last
 lastAccepted [] p = Never
-lastAccepted (a ∷ earlier) p = cond (accepted a && samePair p (pairIn (a .line))) (kindOf (a .line)) (lastAccepted earlier p)
+lastAccepted (a ∷ earlier) p = cond (accepted (a .verdict) && samePair p (pairIn (a .line))) (kindOf (a .line)) (lastAccepted earlier p)
 
 -- how many pairs were ever accepted
 unfoldable pub pairsAccepted : List Answered → ℕ
 pairsAccepted [] = 0
-pairsAccepted (a ∷ earlier) = bit (accepted a && not (ever (lastAccepted earlier (pairIn (a .line))))) + pairsAccepted earlier
+pairsAccepted (a ∷ earlier) = bit (accepted (a .verdict) && not (ever (lastAccepted earlier (pairIn (a .line))))) + pairsAccepted earlier
 
 -- The register: well framed, with room for c rows, none used
 pub record Empty (c : ℕ) (register : List ℕ) : Type 0 where
@@ -108,14 +105,6 @@ pub record Stands (history : List Answered) (register : List ℕ) : Type 0 where
   -- the row is live exactly if the last accepted line of the pair was NEW
   pub live : (p : Pair) → shaped p ≡ true → isLive (standing 1 0 register (bytesOf p)) ≡ wasNew (lastAccepted history p)
 
--- none of refusals 1 to 10 applies
-abbrev pub reached : Call → ℕ → Bool
-reached call room = eqb (firstFrom 1 (early call room)) 0 && not (notWhole call)
-
--- how often a code stands among the n findings of a call
-abbrev pub listed : ℕ → Verdict → List ℕ → ℕ
-listed code verdict findings = times code (take (verdict .count) findings)
-
 -- NEW, or CXL, and cells 4 and 2 are well formed
 abbrev pub newPair : List ℕ → Bool
 newPair line = isNew line && good line 4 && good line 2
@@ -129,17 +118,17 @@ lastOf history call = lastAccepted history (pairIn (call .line))
 
 pub record Follows (c : ℕ) (history : List Answered) (call : Call) (room : ℕ) (verdict : Verdict) (findings : List ℕ) : Type 0 where
   -- CON-023: NEW, and the pair's last accepted line was NEW
-  pub con023 : listed 23 verdict findings ≡ bit (reached call room && (newPair (call .line) && wasNew (lastOf history call)))
+  pub con023 : times 23 (listed verdict findings) ≡ bit (reached call room && (newPair (call .line) && wasNew (lastOf history call)))
   -- CON-024: CXL, and the pair was never accepted
-  pub con024 : listed 24 verdict findings ≡ bit (reached call room && (cxlPair (call .line) && not (ever (lastOf history call))))
+  pub con024 : times 24 (listed verdict findings) ≡ bit (reached call room && (cxlPair (call .line) && not (ever (lastOf history call))))
   -- CON-025: CXL, and the pair's last accepted line was CXL
-  pub con025 : listed 25 verdict findings ≡ bit (reached call room && (cxlPair (call .line) && wasCxl (lastOf history call)))
+  pub con025 : times 25 (listed verdict findings) ≡ bit (reached call room && (cxlPair (call .line) && wasCxl (lastOf history call)))
   -- refusal 11: no rule or form objects, NEW, the pair was never accepted, and c pairs were
   pub refusal11 :
       eqb (verdict .answer) 11
       ≡ (reached call room && (clean call && (isNew (call .line) && (not (ever (lastOf history call)) && eqb (pairsAccepted history) c))))
   -- no line is accepted that is neither NEW nor CXL
-  pub kind : accepted (record { line = call .line; verdict = verdict }) ≡ true → (isNew (call .line) || isCxl (call .line)) ≡ true
+  pub kind : accepted verdict ≡ true → (isNew (call .line) || isCxl (call .line)) ≡ true
 
 -- The condition, of any run so far: what the register shows, and what the next call answers, whatever else it gets. So a cancellation
 -- takes effect at the line that carries it, for each line judged after it

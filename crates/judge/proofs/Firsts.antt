@@ -34,6 +34,13 @@ none-holds n (true ∷ xs) i e = absurd (omega arith)
 none-holds n (false ∷ xs) zero e = refl
 none-holds n (false ∷ xs) (suc i) e = none-holds (suc n) xs i e
 
+-- the number is one of theirs
+pub first-small : (n : ℕ) (tests : List Bool) → firstFrom (suc n) tests ≤ n + length tests
+unfolding firstFrom
+first-small n [] = omega arith
+first-small n (true ∷ tests) = omega arith
+first-small n (false ∷ tests) = omega (arith, first-small (suc n) tests)
+
 -- no test before place i holds
 pub record NoneSoFar (tests : List Bool) (i : ℕ) : Type 0 where
   pub within : i ≤ length tests
