@@ -9,8 +9,9 @@ use lib.Seq.{take-all, take-append-seam}
 use lib.Dec.{eqb}
 use Rattle.facts.specs.Call.{Call}
 use Rattle.verdict.specs.declared.Verdict.{Verdict}
-use Rattle.verdict.specs.Verdict.{pick, verdictOf, refusedBy}
+use Rattle.verdict.specs.Verdict.{verdictOf, refusedBy}
 use Rattle.verdict.specs.Codes.{codes}
+use Rattle.verdict.proofs.ListLaws.{pick-short}
 use Rattle.verdict.proofs.Promises.{code-count}
 use Rattle.judge.specs.Refusal.{allFlags, refusal}
 use Rattle.judge.specs.Outcome.{Outcome, outcome, Judged, judgedOutcome, refusedOutcome}
@@ -18,13 +19,6 @@ use Rattle.buffer.specs.Kept.{Kept}
 use Rattle.buffer.proofs.KeptLaws.{keep-front, keep-then}
 use Rattle.checker.specs.Printed.{decimal, spaced, printed, Answered}
 use Rattle.checker.proofs.DecimalLaws.{spaced-join, printed-short}
-
-pick-short : (table : List ℕ) (flags : List Bool) → length (pick table flags) ≤ length table
-unfolding pick
-pick-short [] flags = omega arith
-pick-short (code ∷ table) [] = omega arith
-pick-short (code ∷ table) (true ∷ flags) = omega (arith, pick-short table flags)
-pick-short (code ∷ table) (false ∷ flags) = omega (arith, pick-short table flags)
 
 -- n is how many codes are listed, and no more than there are
 pub record Counted (o : Outcome) : Type 0 where

@@ -13,10 +13,10 @@ use Rattle.facts.specs.Call.{Call}
 use Rattle.verdict.specs.declared.Verdict.{Verdict}
 use Rattle.verdict.specs.Verdict.{verdictOf, refusedBy}
 use Rattle.verdict.specs.Findings.{over}
-use Rattle.judge.specs.Refusal.{refusal, allFlags}
+use Rattle.judge.specs.Refusal.{tests, refusal, allFlags}
 use Rattle.judge.specs.Outcome.{Outcome, refusedOutcome, judgedOutcome, outcome, Judged}
 use Rattle.judge.proofs.Firsts.{first-small}
-use Rattle.conditions.specs.Condition1.{tests, Condition1}
+use Rattle.conditions.specs.Condition1.{Condition1}
 
 module _ (call : Call) {before findings left : List ℕ} {verdict : Verdict} (j : Judged (outcome call (length before)) before verdict findings left) where
   abbrev first : ℕ

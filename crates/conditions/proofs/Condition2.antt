@@ -18,13 +18,14 @@ use Rattle.verdict.specs.declared.Verdict.{Verdict}
 use Rattle.verdict.specs.Codes.{codes, codeCount}
 use Rattle.verdict.specs.Verdict.{bit, codesFound, verdictOf, refusedBy}
 use Rattle.verdict.specs.Counted.{bitsSet, bitAt, risingOver, times}
+use Rattle.verdict.proofs.ListLaws.{pick-short}
 use Rattle.verdict.proofs.Promises.{code-count, count-bits, bit-is-flag, found-rise, found-once}
 use Rattle.judge.specs.Refusal.{allFlags, clean, early, noRoom}
 use Rattle.judge.specs.Outcome.{written, Outcome, refusedOutcome, judgedOutcome, outcome, Judged}
 use Rattle.judge.proofs.Firsts.{none-holds}
 use Rattle.conditions.specs.Condition1.{reached}
 use Rattle.conditions.specs.Condition2.{accepted, listed, NotRefused, Condition2}
-use Rattle.conditions.proofs.FoundLaws.{pick-short, flag-count, rule-once, form-once, none-other, nothing-found, says-found, lists-found, count-found, listed-found}
+use Rattle.conditions.proofs.FoundLaws.{flag-count, rule-once, form-once, none-other, nothing-found, says-found, lists-found, count-found, listed-found}
 use Rattle.conditions.proofs.CallLaws.{Way, refused, stuck, heard, way, sound, stands-after}
 
 module _ (call : Call) {before findings left : List ℕ} {verdict : Verdict} (j : Judged (outcome call (length before)) before verdict findings left) where

@@ -78,14 +78,6 @@ form-codes : formCodes ≡ map (λ f. 1000 + f) (countFrom 1 65)
 unfolding formCodes
 form-codes = refl
 
--- a table takes no more than it holds
-pub pick-short : (table : List ℕ) (fs : List Bool) → length (pick table fs) ≤ length table
-unfolding pick
-pick-short [] fs = omega arith
-pick-short (code ∷ table) [] = omega arith
-pick-short (code ∷ table) (true ∷ fs) = omega (arith, pick-short table fs)
-pick-short (code ∷ table) (false ∷ fs) = omega (arith, pick-short table fs)
-
 module _ (c : Call) where
   -- a call has a flag for each code
   pub flag-count : length (allFlags c) ≡ codeCount

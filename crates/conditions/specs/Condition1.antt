@@ -4,17 +4,13 @@
 use Prim.Native.Nat.{ℕ, _≤_}
 use mathlib.Core.Path.{_≡_}
 use mathlib.Core.Bool.{Bool, not, _&&_}
-use mathlib.Core.List.{List, [], _∷_, _++_}
+use mathlib.Core.List.{List, [], _∷_}
 use lib.Dec.{eqb}
 use lib.ListN.{length}
 use Rattle.text.specs.FirstFrom.{firstFrom}
 use Rattle.facts.specs.Call.{Call}
 use Rattle.verdict.specs.declared.Verdict.{Verdict}
-use Rattle.judge.specs.Refusal.{early, notWhole, noRoom}
-
--- the eleven tests in the order of checking: nine that need no cell, then 10 and 11. `room` is how many entries the findings buffer has
-abbrev pub tests : Call → ℕ → List Bool
-tests call room = early call room ++ (notWhole call ∷ noRoom call ∷ [])
+use Rattle.judge.specs.Refusal.{early, notWhole, tests}
 
 -- none of the first ten holds
 abbrev pub reached : Call → ℕ → Bool

@@ -53,5 +53,9 @@ notWhole c = not (eqb (barsOf (c .line)) 64)
 unfoldable pub noRoom : Call → Bool
 noRoom c = clean c && (isNew (c .line) && (isAbsent (standingOf c) && full 0 (c .register)))
 
+-- the eleven tests, in order of checking
+abbrev pub tests : Call → ℕ → List Bool
+tests c room = early c room ++ (notWhole c ∷ noRoom c ∷ [])
+
 unfoldable pub refusal : Call → ℕ → ℕ
-refusal c room = firstFrom 1 (early c room ++ (notWhole c ∷ noRoom c ∷ []))
+refusal c room = firstFrom 1 (tests c room)

@@ -22,6 +22,14 @@ length-pick (code ∷ table) [] h = absurd (omega arith)
 length-pick (code ∷ table) (true ∷ flags) h = omega (arith, length-pick table flags (omega arith))
 length-pick (code ∷ table) (false ∷ flags) h = omega (arith, length-pick table flags (omega arith))
 
+-- a table takes no more than it holds
+pub pick-short : (table : List ℕ) (flags : List Bool) → length (pick table flags) ≤ length table
+unfolding pick
+pick-short [] flags = omega arith
+pick-short (code ∷ table) [] = omega arith
+pick-short (code ∷ table) (true ∷ flags) = omega (arith, pick-short table flags)
+pick-short (code ∷ table) (false ∷ flags) = omega (arith, pick-short table flags)
+
 -- the codes found before place i stand in the first n entries
 pub record ListedSoFar (table : List ℕ) (flags : List Bool) (before entries : List ℕ) (n i : ℕ) : Type 0 where
   pub within : i ≤ length flags
