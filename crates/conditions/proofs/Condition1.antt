@@ -1,10 +1,9 @@
 -- Condition 1, of every call and whatever its contract permits.
 use mathlib.Core.Path.{_≡_, _∙_, refl, sym, ap}
-use mathlib.Core.Bool.{true, false, cond}
 use mathlib.Core.List.{List}
 use Prim.Native.Nat.{ℕ, _≤_}
 use native.Mathlib.Omega.{arith}
-use borrow.Author.Tests.{eqb-true, eqb-false}
+use borrow.Author.Tests.{eqb-true}
 use lib.Dec.{eqb}
 use lib.ListN.{length}
 use Rattle.text.specs.FirstFrom.{firstFrom}
@@ -13,7 +12,7 @@ use Rattle.facts.specs.Call.{Call}
 use Rattle.verdict.specs.declared.Verdict.{Verdict}
 use Rattle.verdict.specs.Verdict.{verdictOf, refusedBy}
 use Rattle.verdict.specs.Findings.{over}
-use Rattle.judge.specs.Refusal.{tests, refusal, allFlags}
+use Rattle.judge.specs.Refusal.{tests, refusal}
 use Rattle.judge.specs.Outcome.{Outcome, refusedOutcome, judgedOutcome, outcome, Judged}
 use Rattle.judge.proofs.Firsts.{first-small}
 use Rattle.conditions.specs.Condition1.{Condition1}
@@ -21,6 +20,11 @@ use Rattle.conditions.specs.Condition1.{Condition1}
 module _ (call : Call) {before findings left : List ℕ} {verdict : Verdict} (j : Judged (outcome call (length before)) before verdict findings left) where
   abbrev first : ℕ
   first = firstFrom 1 (tests call (length before))
+
+  -- it is what the contract goes by
+  refusal-is : refusal call (length before) ≡ first
+  unfolding refusal
+  refusal-is = refl
 
   few : first ≤ 11
   few = first-small 0 (tests call (length before))
@@ -57,5 +61,8 @@ module _ (call : Call) {before findings left : List ℕ} {verdict : Verdict} (j 
         }
 
   pub condition1 : Condition1 call before verdict findings left
-  unfolding outcome refusal
-  condition1 = by-test (eqb first 0) (λ t. when-judged (eqb-true first 0 t) (rw t)) (λ t. when-refused (rw t))
+  unfolding outcome
+  condition1 =
+      by-test (eqb (refusal call (length before)) 0)
+      (λ t. when-judged (sym refusal-is ∙ eqb-true _ 0 t) (rw t))
+      (λ t. when-refused (rw t (ap (refusedOutcome call) refusal-is)))
