@@ -7,6 +7,7 @@
 ghost use mathlib.Core.Path.{_≡_};
 ghost use Rattle.cfi.specs.Rules.{codes, matchesCode, cfiFindings};
 ghost use Rattle.cfi.specs.Table.{Spelled, matchesIn, wrongBy, rowMatches, rowBroken, marked};
+ghost use mathlib.Core.List.{[], _∷_};
 ghost use lib.ListN.{length};
 use text::byte_at;
 use text::head;
@@ -235,12 +236,27 @@ fn matched_in(rows: &[[u16; 6]; 22], patterns: &[u8], code: u16, cfi: &[u8]) -> 
     false
 }
 
-// The CFI matches a pattern of one of the code's rules, whatever the cells hold: for rules that look at another CFI than that
-// of cell 43.
-pub fn matches_code(code: u16, cfi: &[u8]) -> bool
-    ensures { λ r. ⌜ r ≡ matchesCode code (now (cfi .entry)) ⌝ }
+fn matched_both(
+    rows: &[[u16; 6]; 22],
+    patterns: &[u8],
+    one: u16,
+    other: u16,
+    cfi: &[u8],
+) -> [bool; 2]
+    requires { ⌜ Spelled (now rows) (now patterns) codes ⌝ }
+    ensures { λ r. ⌜ r ≡ matchesCode one (now (cfi .entry)) ∷ matchesCode other (now (cfi .entry)) ∷ [] ⌝ }
 {
-    matched_in(&ROWS, &PATTERNS, code, cfi)
+    let first = matched_in(rows, patterns, one, cfi);
+    let second = matched_in(rows, patterns, other, cfi);
+    [first, second]
+}
+
+// Of two codes, whether the CFI matches a pattern of one of their rules, whatever the cells hold: for rules that look at another
+// CFI than that of cell 43. Two at a time, since the tables are made at each call.
+pub fn matches_codes(one: u16, other: u16, cfi: &[u8]) -> [bool; 2]
+    ensures { λ r. ⌜ r ≡ matchesCode one (now (cfi .entry)) ∷ matchesCode other (now (cfi .entry)) ∷ [] ⌝ }
+{
+    matched_both(&ROWS, &PATTERNS, one, other, cfi)
 }
 
 // Of each of the 19 codes by CFI, in rising order, whether it is violated. Every pattern has six letters, and most lines have

@@ -3,8 +3,8 @@ ghost use mathlib.Core.Path.{_≡_};
 ghost use Prim.Native.Nat.{_≤_};
 ghost use Rattle.lists.specs.Row.{inDays};
 ghost use Rattle.lists.specs.Questions.{rowSays};
-use cfi::matches_code;
 use crate::frame::Mark;
+use cfi::matches_codes;
 use text::byte_at;
 use text::le32;
 use text::part;
@@ -84,10 +84,11 @@ fn instrument_says(row: &[u8], day: u32) -> Answers
 {
     let cfi = part(row, 12, 18);
     let on = in_days(row, 18, day);
+    let matched = matches_codes(330, 350, cfi);
     Answers {
         first: on,
-        second: matches_code(330, cfi) & on,
-        third: matches_code(350, cfi) & on,
+        second: matched[0] & on,
+        third: matched[1] & on,
     }
 }
 

@@ -35,7 +35,8 @@ fn small(s: &[u8]) -> u8 {
 pub fn of_cfi(call: &[u8], input: &[u8]) -> u64 {
     if text::starts_with(call, b"matches.") {
         let code = (text::number_in(word(call, 1)) % 65536) as u16;
-        return yes(cfi::matches_code(code, input));
+        let matched = cfi::matches_codes(code, code, input);
+        return yes(matched[0] & matched[1]);
     }
     if !text::starts_with(call, b"cfi.") {
         return UNKNOWN;

@@ -9,14 +9,13 @@ use Rattle.calendar.specs.Dates.{dayWritten, dateOf}
 use Rattle.ident.specs.Written.{valueOf as valueOf′, digitsOf as digitsOf′, writtenDigits, decimal}
 use Rattle.ident.specs.Codes.{oddly, doubleAddDouble}
 use Rattle.amount.specs.Decimal.{pointAt, whole, decimals, isDecimal, digitsOf, valueOf, tagged}
-use Rattle.amount.specs.Signed.{isSigned, behindSign, signedValueOf}
 use Rattle.amount.specs.Price.{priceOf}
 use Rattle.amount.specs.Quantity.{quantityOf}
 use Rattle.facts.specs.Words.{tooOld}
 use Rattle.worked.specs.Examples.{Examples}
 
 pub examples : Examples
-unfolding valueOf′ digitsOf′ writtenDigits decimal allOf startsWith same suits shape digitOf numeral numberOf twoDigits fourDigits leap monthLength yearLength isDay sum dayNumber dayWritten dateOf oddly doubleAddDouble pointAt whole decimals isDecimal digitsOf valueOf tagged isSigned behindSign signedValueOf priceOf quantityOf tooOld
+unfolding valueOf′ digitsOf′ writtenDigits decimal allOf startsWith same suits shape digitOf numeral numberOf twoDigits fourDigits leap monthLength yearLength isDay sum dayNumber dayWritten dateOf oddly doubleAddDouble pointAt whole decimals isDecimal digitsOf valueOf tagged priceOf quantityOf tooOld
 examples =
     record {
       lei-98 = refl;
