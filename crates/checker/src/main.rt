@@ -160,7 +160,14 @@ fn take_chunk(chunk: &[u8], line: &mut [u8], register: &mut [u8], place: Place) 
     let mut number = place.number;
     let mut at = 0;
     while at < chunk.len() {
-        let turn = advance(text::rest(chunk, at), line, register, kept, number, &mut out);
+        let turn = advance(
+            text::rest(chunk, at),
+            line,
+            register,
+            kept,
+            number,
+            &mut out,
+        );
         if !io::write_all(STDOUT_FILENO, text::head(&out, turn.written)) {
             return broken_off(number, b"checker: an answer could not be written\n");
         }
@@ -225,13 +232,7 @@ fn main() {
     let place = read_all(&mut line, &mut register);
     if !place.failed {
         let mut out = [0u8; LONGEST];
-        let n = finish(
-            &line,
-            &mut register,
-            place.kept,
-            place.number,
-            &mut out,
-        );
+        let n = finish(&line, &mut register, place.kept, place.number, &mut out);
         if !io::write_all(STDOUT_FILENO, text::head(&out, n)) {
             broken_off(place.number, b"checker: an answer could not be written\n");
         }
