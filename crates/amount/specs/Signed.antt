@@ -28,7 +28,7 @@ signedValueOf s = cond (startsWith (ascii "-") s) (negated (valueOf (behindSign 
 unfoldable pub signedOf : ℕ → List ℕ → Signed
 signedOf f s = cond (isSigned 18 f 19 s) (Amount (signedValueOf s)) Malformed
 
--- the kinds, numbered from 2 on as the cell form has but one; 0 is malformed
+-- 2 is an amount, the one kind there is, as the kinds of prices and quantities are numbered from 2 on; 0 is malformed
 abbrev pub signedKind : Signed → ℕ
 signedKind (Amount d) = 2
 signedKind Malformed = 0

@@ -1,6 +1,6 @@
 -- Why 4,098 bytes of a line are enough: a line of at most 4,097 bytes is kept whole, and of a longer one what is kept and what
 -- there was are both over 4,096 bytes without the CR, so that both have the same outcome.
-use mathlib.Core.Path.{_≡_, _∙_, refl, sym, ap}
+use mathlib.Core.Path.{_≡_, _∙_, sym, ap}
 use mathlib.Core.Bool.{Bool, true, false}
 use mathlib.Core.List.{List, [], _∷_, _++_}
 use Prim.Native.Nat.{ℕ, suc, _+_, _≤_, _<_}

@@ -18,7 +18,7 @@ use Rattle.checker.specs.Bare.{bare}
 use Rattle.checker.specs.Lines.{unended, linesFrom}
 use Rattle.checker.specs.Printed.{answerTo}
 use Rattle.checker.specs.Program.{judged, answers, programWrites}
-use Rattle.checker.specs.Progress.{Progress, progress, held, start, told, left, room, raised, ended, more, step, said, after, writes, lastAnswer, writesAll, Run, begins, turn}
+use Rattle.checker.specs.Progress.{Progress, progress, held, start, told, left, room, raised, ended, more, after, writes, lastAnswer, writesAll, Run, begins, turn}
 use Rattle.checker.proofs.ProgressLaws.{after-append, writes-append}
 use Rattle.checker.proofs.Enough.{kept-ended, kept-last}
 use Rattle.checker.proofs.advance.Kinds as advance-kinds

@@ -1,13 +1,13 @@
 -- Condition 2, of every call and whatever its contract permits.
-use mathlib.Core.Path.{_≡_, _∙_, refl, sym, ap}
+use mathlib.Core.Path.{_≡_, _∙_, sym, ap}
 use mathlib.Core.Bool.{true, false, cond, true≢false}
 use mathlib.Core.Logic.{inl, inr}
-use mathlib.Core.List.{List, _++_}
+use mathlib.Core.List.{List}
 use Prim.Native.Nat.{ℕ, _+_, _≤_}
 use native.Mathlib.Omega.{arith}
 use borrow.Author.Tests.{not-false, eq-eqb, ne-eqb, eqb-true, ltb-false}
 use lib.Dec.{eqb}
-use lib.ListN.{length, getD, take, drop, length-append, length-drop, List·getD-eq-default}
+use lib.ListN.{length, getD, drop, length-append, length-drop, List·getD-eq-default}
 use lib.Seq.{drop-append-seam}
 use Rattle.text.specs.FirstFrom.{firstFrom}
 use Rattle.text.proofs.Bools.{and-left}
@@ -24,7 +24,7 @@ use Rattle.judge.specs.Refusal.{allFlags, clean, early, noRoom}
 use Rattle.judge.specs.Outcome.{written, Outcome, refusedOutcome, judgedOutcome, outcome, Judged}
 use Rattle.judge.proofs.Firsts.{none-holds}
 use Rattle.conditions.specs.Condition1.{reached}
-use Rattle.conditions.specs.Condition2.{accepted, listed, NotRefused, Condition2}
+use Rattle.conditions.specs.Condition2.{listed, NotRefused, Condition2}
 use Rattle.conditions.proofs.FoundLaws.{flag-count, rule-once, form-once, none-other, nothing-found, says-found, lists-found, count-found, listed-found}
 use Rattle.conditions.proofs.CallLaws.{Way, refused, stuck, heard, way, sound, stands-after}
 

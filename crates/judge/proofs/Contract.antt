@@ -5,7 +5,7 @@ use mathlib.Core.List.{List}
 use Prim.Native.Nat.{ℕ}
 use contract.Lifetimes.{Lfts}
 use denote.Triple.Clauses.{AtExit}
-use borrow.Fn.Kinds.{Dens, resT, endedOf}
+use borrow.Fn.Kinds.{Dens, endedOf}
 use lib.ListN.{length}
 use Rattle.facts.specs.Call.{Call}
 use Rattle.verdict.specs.declared.Verdict.{Verdict}

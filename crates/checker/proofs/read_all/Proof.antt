@@ -8,11 +8,6 @@ use lib.ListN.{length}
 use borrow.Author.Tests.{not-true, not-false}
 use borrow.Author.Needs.{needs}
 use native.Mathlib.Omega.{arith}
-use Rattle.checker.proofs.read_all.Reads as reads
-use Rattle.checker.proofs.read_all.Lts as lts
-use Rattle.checker.proofs.take_read.Reads as take-read-reads
-use Rattle.io.proofs.large_buffer.Reads as large-buffer-reads
-use Rattle.libc.proofs.read.Reads as read-reads
 
 abbrev Inv-loop : tie.InvT-loop
 Inv-loop line₀ register₀ chunk₀ place₀ turns₀ line register chunk place turns =
@@ -22,75 +17,57 @@ Inv-loop line₀ register₀ chunk₀ place₀ turns₀ line register chunk plac
 abbrev μ-loop : tie.MeasureT-loop
 μ-loop line₀ register₀ chunk₀ place₀ turns₀ line register chunk place turns = turns
 
--- src/main.rt:204:21
 large-buffer-requires : tie.Need-large-buffer-requires Inv-loop μ-loop
 large-buffer-requires c κs = search needs
 
--- src/main.rt:212:5
 loop-holds : tie.Need-loop-holds Inv-loop μ-loop
 loop-holds c = (λ f. on-start, ((c .before .before .before .pre), (refl, refl)))
 
--- src/main.rt:213:44
 slice-aggregate-read : tie.Need-slice-aggregate-read Inv-loop μ-loop
 slice-aggregate-read c = search needs
 
--- src/main.rt:213:13
 read-requires : tie.Need-read-requires Inv-loop μ-loop
 read-requires c κs = search needs
 
--- src/main.rt:214:32
 slice-aggregate-take-read : tie.Need-slice-aggregate-take-read Inv-loop μ-loop
 slice-aggregate-take-read c = search needs
 
--- src/main.rt:214:9
 take-read-requires : tie.Need-take-read-requires Inv-loop μ-loop
 take-read-requires c κs = search needs
 
--- src/main.rt:215:9
 sub-turns : tie.Need-sub-turns Inv-loop μ-loop
 sub-turns c = search needs
 
--- src/main.rt:212:5
 loop-less : tie.Need-loop-less Inv-loop μ-loop
 loop-less c = search needs
 
--- src/main.rt:212:5
 loop-again : tie.Need-loop-again Inv-loop μ-loop
 loop-again c = (λ f. on-more ((c .before .before .before .before .before .before .before .before .before .before .before .before .before .before .before .before .loop) .inv .0 (not-true _ ((c .before .before .before .before .before .before .before .before .before .before .before .if2) .taken))) ((c .before .before .before .before .before .before .before .before .before .before .before .before .before .before .before .loop-test) .taken) (not-true _ ((c .before .before .before .before .before .before .before .before .before .before .before .before .before .if1) .taken)) f ((c .before .before .before .before .take-read) .ensures), (search needs, (search needs, search needs)))
 
--- src/main.rt:200:1
 same-length : tie.Need-same-length Inv-loop μ-loop
 same-length c = search needs
 
--- src/main.rt:200:1
 same-length-2 : tie.Need-same-length-2 Inv-loop μ-loop
 same-length-2 c = search needs
 
--- src/main.rt:200:1
 returns : tie.Need-returns Inv-loop μ-loop
 returns c = λ f. absurd (true≢false (sym (not-false _ ((c .if2) .left)) ∙ f))
 
--- src/main.rt:200:1
 same-length-3 : tie.Need-same-length-3 Inv-loop μ-loop
 same-length-3 c = search needs
 
--- src/main.rt:200:1
 same-length-4 : tie.Need-same-length-4 Inv-loop μ-loop
 same-length-4 c = search needs
 
--- src/main.rt:200:1
 returns-2 : tie.Need-returns-2 Inv-loop μ-loop
 returns-2 c = λ f. on-ended ((c .before .before .before .loop) .inv .0 f) (not-false _ ((c .if1) .left))
 
--- src/main.rt:200:1
 same-length-5 : tie.Need-same-length-5 Inv-loop μ-loop
 same-length-5 c = search needs
 
--- src/main.rt:200:1
 same-length-6 : tie.Need-same-length-6 Inv-loop μ-loop
 same-length-6 c = search needs
 
--- src/main.rt:200:1
 returns-3 : tie.Need-returns-3 Inv-loop μ-loop
 returns-3 c = λ f. on-done ((c .before .loop) .inv .0 f) (omega arith)
 

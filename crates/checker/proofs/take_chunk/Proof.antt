@@ -8,13 +8,6 @@ use lib.ListN.{length}
 use Prim.Native.Nat.{_-_}
 use borrow.Author.Needs.{needs}
 use native.Mathlib.Omega.{arith}
-use Rattle.checker.proofs.take_chunk.Reads as reads
-use Rattle.checker.proofs.take_chunk.Lts as lts
-use Rattle.checker.proofs.advance.Reads as advance-reads
-use Rattle.checker.proofs.broken_off.Reads as broken-off-reads
-use Rattle.io.proofs.write_all.Reads as write-all-reads
-use Rattle.text.proofs.head.Reads as head-reads
-use Rattle.text.proofs.rest.Reads as rest-reads
 
 abbrev Inv-loop : tie.InvT-loop
 Inv-loop chunk line₀ register₀ out₀ kept₀ number₀ at₀ t10 line register out kept number at =
@@ -24,75 +17,57 @@ Inv-loop chunk line₀ register₀ out₀ kept₀ number₀ at₀ t10 line regis
 abbrev μ-loop : tie.MeasureT-loop
 μ-loop chunk line₀ register₀ out₀ kept₀ number₀ at₀ t10 line register out kept number at = length chunk - at
 
--- src/main.rt:162:5
 loop-holds : tie.Need-loop-holds Inv-loop μ-loop
 loop-holds c = (taken-start, (c .before .before .before .pre, (refl, refl)))
 
--- src/main.rt:163:28
 rest-requires : tie.Need-rest-requires Inv-loop μ-loop
 rest-requires c κs = search needs
 
--- src/main.rt:163:81
 slice-aggregate-advance : tie.Need-slice-aggregate-advance Inv-loop μ-loop
 slice-aggregate-advance c = search needs
 
--- src/main.rt:163:13
 advance-requires : tie.Need-advance-requires Inv-loop μ-loop
 advance-requires c κs = search needs
 
--- src/main.rt:164:53
 slice-aggregate-head : tie.Need-slice-aggregate-head Inv-loop μ-loop
 slice-aggregate-head c = search needs
 
--- src/main.rt:164:42
 head-requires : tie.Need-head-requires Inv-loop μ-loop
 head-requires c κs = search needs
 
--- src/main.rt:164:13
 write-all-requires : tie.Need-write-all-requires Inv-loop μ-loop
 write-all-requires c κs = search needs
 
--- src/main.rt:165:39
 slice-aggregate-broken-off : tie.Need-slice-aggregate-broken-off Inv-loop μ-loop
 slice-aggregate-broken-off c = search needs
 
--- src/main.rt:165:13
 broken-off-requires : tie.Need-broken-off-requires Inv-loop μ-loop
 broken-off-requires c κs = search needs
 
--- src/main.rt:165:13
 same-length : tie.Need-same-length Inv-loop μ-loop
 same-length c = search needs
 
--- src/main.rt:165:13
 same-length-2 : tie.Need-same-length-2 Inv-loop μ-loop
 same-length-2 c = search needs
 
--- src/main.rt:165:13
 returns : tie.Need-returns Inv-loop μ-loop
 returns c = taken-failed ((c .broken-off) .ensures)
 
--- src/main.rt:169:9
 add-at : tie.Need-add-at Inv-loop μ-loop
 add-at c = search needs
 
--- src/main.rt:162:5
 loop-less : tie.Need-loop-less Inv-loop μ-loop
 loop-less c = taken-less ((c .before .before .before .before .before .before .before .before .before .before .before .before .before .before .before .before .loop) .inv .0) ((c .before .before .before .before .before .before .before .before .before .before .before .before .before .before .before .loop-test) .taken) (rw ((c .before .before .before .before .before .before .before .before .before .before .before .before .before .before .rest) .ensures) at ((c .before .before .before .before .before .before .before .before .before .before .advance) .ensures))
 
--- src/main.rt:162:5
 loop-again : tie.Need-loop-again Inv-loop μ-loop
 loop-again c = (taken-on ((c .before .before .before .before .before .before .before .before .before .before .before .before .before .before .before .before .loop) .inv .0) (rw ((c .before .before .before .before .before .before .before .before .before .before .before .before .before .before .rest) .ensures) at ((c .before .before .before .before .before .before .before .before .before .before .advance) .ensures)), (search needs, (search needs, search needs)))
 
--- src/main.rt:154:1
 same-length-3 : tie.Need-same-length-3 Inv-loop μ-loop
 same-length-3 c = search needs
 
--- src/main.rt:154:1
 same-length-4 : tie.Need-same-length-4 Inv-loop μ-loop
 same-length-4 c = search needs
 
--- src/main.rt:154:1
 returns-2 : tie.Need-returns-2 Inv-loop μ-loop
 returns-2 c = taken-all ((c .before .loop) .inv .0) (omega arith)
 

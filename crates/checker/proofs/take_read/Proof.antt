@@ -7,50 +7,34 @@ use mathlib.Core.Path.{_∙_, ap}
 use lib.IntN.{ℤ}
 use lib.ListN.{length}
 use mir.Facts.{toZ-ofZ}
-use Rattle.checker.proofs.take_read.Reads as reads
-use Rattle.checker.proofs.take_read.Lts as lts
-use Rattle.checker.proofs.broken_off.Reads as broken-off-reads
-use Rattle.checker.proofs.take_chunk.Reads as take-chunk-reads
-use Rattle.io.proofs.count.Reads as count-reads
-use Rattle.text.proofs.head.Reads as head-reads
 
--- src/main.rt:185:41
 slice-aggregate-broken-off : tie.Need-slice-aggregate-broken-off
 slice-aggregate-broken-off c = search needs
 
--- src/main.rt:185:9
 broken-off-requires : tie.Need-broken-off-requires
 broken-off-requires c κs = search needs
 
--- src/main.rt:185:9
 returns : tie.Need-returns
 returns c = read-failed ((c .broken-off) .ensures .1)
 
--- src/main.rt:187:9
 count-requires : tie.Need-count-requires
 count-requires c κs = search needs
 
--- src/main.rt:189:9
 returns-2 : tie.Need-returns-2
 returns-2 c = read-none ((c .before .before .before .before .before .before .args) .got) ((c .before .before .before .before .before .before .args) .chunk .now) ((c .before .count) .ensures .0) ((c .before .count) .ensures .1 ∙ ap (λ (z : ℤ). clamped z (length (c .before .before .before .before .before .before .args .chunk .now))) (toZ-ofZ (c .before .before .before .before .before .before .fits .got))) ((c .if2) .taken)
 
--- src/main.rt:196:16
 head-requires : tie.Need-head-requires
 head-requires c κs = search needs
 
--- src/main.rt:196:5
 take-chunk-requires : tie.Need-take-chunk-requires
 take-chunk-requires c κs = search needs
 
--- src/main.rt:180:1
 same-length : tie.Need-same-length
 same-length c = search needs
 
--- src/main.rt:180:1
 same-length-2 : tie.Need-same-length-2
 same-length-2 c = search needs
 
--- src/main.rt:180:1
 returns-3 : tie.Need-returns-3
 returns-3 c = read-more ((c .before .before .before .before .before .before .before .before .before .before .before .before .before .before .args) .got) ((c .before .before .before .before .before .before .before .before .before .before .before .before .before .before .args) .chunk .now) ((c .before .before .before .before .before .before .before .before .before .count) .ensures .0) ((c .before .before .before .before .before .before .before .before .before .count) .ensures .1 ∙ ap (λ (z : ℤ). clamped z (length (c .before .before .before .before .before .before .before .before .before .before .before .before .before .before .args .chunk .now))) (toZ-ofZ (c .before .before .before .before .before .before .before .before .before .before .before .before .before .before .fits .got))) ((c .before .before .before .before .before .before .before .before .if2) .left) (rw ((c .before .before .before .before .before .before .before .head) .ensures) at ((c .before .before .before .before .take-chunk) .ensures))
 
