@@ -1,6 +1,6 @@
 -- What the code finds in tables that spell the rules is what the rules find.
 use mathlib.Core.Path.{_≡_, _∙_, refl, sym, ap}
-use mathlib.Core.Bool.{Bool, true, _&&_, _||_, or-false}
+use mathlib.Core.Bool.{Bool, true, false, _&&_, _||_, or-false}
 use mathlib.Core.List.{List, [], _∷_, _++_, append-assoc}
 use Prim.Native.Nat.{ℕ, suc, _+_, _-_}
 use native.Mathlib.Omega.{arith}
@@ -8,11 +8,12 @@ use borrow.Author.Tests.{eqb-true}
 use lib.Dec.{eqb}
 use lib.ListN.{length, getD, take, drop, length-append}
 use lib.Seq.{take-at, drop-at, drop-append-add}
+use Rattle.text.specs.Ascii.{ascii}
 use Rattle.text.specs.Shape.{shape}
 use Rattle.text.proofs.Bools.{and-left, and-right}
 use Rattle.cfi.specs.Rules.{Fault, Blank, Present, PresentNot, Not, UnitsAnd, wrong, Rule, rules, codes, any, matches, broken, violated, matchesCode, cfiFindings, words}
-use Rattle.cfi.specs.Table.{spaced, textOf, faultNumber, faultValue, rowOf, rowsFrom, Spelled, matchesIn, wrongBy, rowMatches, rowBroken}
-use Rattle.cfi.proofs.WalkLaws.{in-skip, map-ext, foundIn, ownMatches, rising}
+use Rattle.cfi.specs.Table.{spaced, textOf, faultNumber, faultValue, rowsFrom, Spelled, matchesIn, wrongBy, rowBroken}
+use Rattle.cfi.proofs.WalkLaws.{in-skip, map-ext, foundIn}
 
 -- each pattern is of six bytes
 unfoldable pub six : List (List ℕ) → Bool
@@ -39,6 +40,19 @@ matches-spaced cfi ((b ∷ p) ∷ ps) e =
     λ i. shape (b ∷ take-at p (32 ∷ spaced ps) 5 (omega arith) i) cfi
     || (in-skip cfi 6 (p ++ (32 ∷ spaced ps)) ∙ (λ j. matchesIn cfi 0 (on j)) ∙ matches-spaced cfi ps (and-right (eqb (suc (length p)) 6) (six ps) e)) i
 
+-- the patterns of 330 and of 350, as they stand in the code a second time
+module _ (cfi : List ℕ) where
+  own-text : (ps : List (List ℕ)) → six ps ≡ true → matchesIn cfi 0 (spaced ps) ≡ (matches ps cfi || false)
+  own-text ps e = matches-spaced cfi ps e ∙ sym (or-false (matches ps cfi))
+
+  pub debt-text : matchesIn cfi 0 (ascii "D***** ") ≡ matchesCode 330 cfi
+  unfolding matchesCode any rules words spaced six
+  debt-text = own-text (words [] (ascii "D*****")) refl
+
+  pub bond-text : matchesIn cfi 0 (ascii "DB**** DC**** DT**** DN**** ") ≡ matchesCode 350 cfi
+  unfolding matchesCode any rules words spaced six
+  bond-text = own-text (words [] (ascii "DB**** DC**** DT**** DN****")) refl
+
 -- a fault by its number is the fault
 wrong-by : (f : Fault) (quantity k : ℕ) → wrongBy (faultNumber f) (faultValue f) quantity k ≡ wrong f quantity k
 wrong-by Blank quantity k = simp or-false
@@ -47,54 +61,39 @@ wrong-by (PresentNot value) quantity k = simp or-false
 wrong-by (Not value) quantity k = simp or-false
 wrong-by (UnitsAnd value) quantity k = refl
 
--- a row's patterns are its rule's, whatever patterns stand around them
-row-matches : (cfi front : List ℕ) (r : Rule) (rs : List Rule) → six (r .patterns) ≡ true
-    → rowMatches (front ++ (spaced (r .patterns) ++ textOf rs)) cfi (rowOf (length front) r) ≡ matches (r .patterns) cfi
-row-matches cfi front r rs e =
-    let s : List ℕ = spaced (r .patterns) in
-    let n : length front + length s - length front ≡ length s = omega arith in
-    let own : take (length front + length s - length front) (drop (length front) (front ++ (s ++ textOf rs))) ≡ s =
-    (λ j. take (n j) (drop-at front (s ++ textOf rs) (length front) refl j)) ∙ take-at s (textOf rs) (length s) refl in
-    (λ j. matchesIn cfi 0 (own j)) ∙ matches-spaced cfi (r .patterns) e
+module _ (kinds cfi : List ℕ) where
+  -- a row finds what its rule finds
+  row-is : (front : List ℕ) (r : Rule) (rs : List Rule) → six (r .patterns) ≡ true
+      → rowBroken (front ++ (spaced (r .patterns) ++ textOf rs)) kinds cfi
+      (r .code ∷ r .cell ∷ faultNumber (r .fault) ∷ faultValue (r .fault) ∷ length front ∷ (length front + length (spaced (r .patterns))) ∷ [])
+      ≡ broken kinds cfi r
+  unfolding rowBroken broken
+  row-is front r rs e =
+      let s : List ℕ = spaced (r .patterns) in
+      let n : length front + length s - length front ≡ length s = omega arith in
+      let own : take (length front + length s - length front) (drop (length front) (front ++ (s ++ textOf rs))) ≡ s =
+      (λ j. take (n j) (drop-at front (s ++ textOf rs) (length front) refl j)) ∙ take-at s (textOf rs) (length s) refl in
+      λ i. wrong-by (r .fault) (getD kinds 30 0) (getD kinds (r .cell) 0) i && ((λ j. matchesIn cfi 0 (own j)) ∙ matches-spaced cfi (r .patterns) e) i
 
--- a row finds what its rule finds
-row-breaks : (kinds cfi front : List ℕ) (r : Rule) (rs : List Rule) → six (r .patterns) ≡ true
-    → rowBroken (front ++ (spaced (r .patterns) ++ textOf rs)) kinds cfi (rowOf (length front) r) ≡ broken kinds cfi r
-unfolding rowBroken broken
-row-breaks kinds cfi front r rs e =
-    λ i. wrong-by (r .fault) (getD kinds 30 0) (getD kinds (r .cell) 0) i && row-matches cfi front r rs e i
-
--- what is asked of a row's patterns, and of its rule
-module _ (asked : List ℕ → List ℕ → Bool) (of : Rule → Bool)
-    (same : (front : List ℕ) (r : Rule) (rs : List Rule) → six (r .patterns) ≡ true → asked (front ++ (spaced (r .patterns) ++ textOf rs)) (rowOf (length front) r) ≡ of r) where
-  -- the rows answer for a code what its rules answer, whatever patterns stand in front
+  -- the rows find for a code what its rules find, whatever patterns stand in front
   rows-are-rules : (k : ℕ) (front : List ℕ) (rs : List Rule) → allSix rs ≡ true
-      → any (λ row. eqb (getD row 0 0) k && asked (front ++ textOf rs) row) (rowsFrom (length front) rs) ≡ any (λ r. eqb (r .code) k && of r) rs
+      → any (λ row. eqb (getD row 0 0) k && rowBroken (front ++ textOf rs) kinds cfi row) (rowsFrom (length front) rs)
+      ≡ any (λ r. eqb (r .code) k && broken kinds cfi r) rs
   unfolding any rowsFrom textOf allSix
   rows-are-rules k front [] e = refl
   rows-are-rules k front (r ∷ rs) e =
       let s : List ℕ = spaced (r .patterns) in
-      λ i. (eqb (r .code) k && same front r rs (and-left (six (r .patterns)) (allSix rs) e) i)
-      || ((λ j. any (λ row. eqb (getD row 0 0) k && asked (sym (append-assoc front s (textOf rs)) j) row) (rowsFrom (sym (length-append front s) j) rs))
+      λ i. (eqb (r .code) k && row-is front r rs (and-left (six (r .patterns)) (allSix rs) e) i)
+      || ((λ j. any (λ row. eqb (getD row 0 0) k && rowBroken (sym (append-assoc front s (textOf rs)) j) kinds cfi row) (rowsFrom (sym (length-append front s) j) rs))
       ∙ rows-are-rules k (front ++ s) rs (and-right (six (r .patterns)) (allSix rs) e)) i
 
-module _ {rows : List (List ℕ)} {patterns numbers : List ℕ} (s : Spelled rows patterns numbers) where
-  pub found-is : (kinds cfi : List ℕ) → foundIn rows patterns numbers kinds cfi ≡ cfiFindings kinds cfi
+  pub found-is : {rows : List (List ℕ)} {patterns numbers : List ℕ} → Spelled rows patterns numbers
+      → foundIn rows patterns numbers kinds cfi ≡ cfiFindings kinds cfi
   unfolding foundIn cfiFindings violated
-  found-is kinds cfi =
-      let by-rules = rows-are-rules (λ text. rowBroken text kinds cfi) (broken kinds cfi) (row-breaks kinds cfi) in
-      (λ j. foundIn (s .rows-are j) (s .patterns-are j) (s .codes-are j) kinds cfi) ∙ map-ext (λ k. by-rules k [] rules rules-six) codes
+  found-is s =
+      (λ j. foundIn (s .rows-are j) (s .patterns-are j) (s .codes-are j) kinds cfi) ∙ map-ext (λ k. rows-are-rules k [] rules rules-six) codes
 
-  pub matched-is : (code : ℕ) (cfi : List ℕ) → any (ownMatches code patterns cfi) rows ≡ matchesCode code cfi
-  unfolding matchesCode
-  matched-is code cfi =
-      (λ j. any (ownMatches code (s .patterns-are j) cfi) (s .rows-are j))
-      ∙ rows-are-rules (λ text. rowMatches text cfi) (λ r. matches (r .patterns) cfi) (row-matches cfi) code [] rules rules-six
-
-  pub spelled-rise : rising 0 rows ≡ true
-  unfolding rising rowsFrom rules
-  spelled-rise = ap (rising 0) (s .rows-are)
-
+module _ {rows : List (List ℕ)} {patterns numbers : List ℕ} (s : Spelled rows patterns numbers) where
   pub spelled-rows : length rows ≡ 22
   unfolding rowsFrom rules
   spelled-rows = ap length (s .rows-are)

@@ -5,16 +5,14 @@ use mathlib.Core.List.{List, [], _∷_, _++_, map}
 use Prim.Native.Nat.{ℕ, zero, suc, _+_, _-_, _≤_, _<_}
 use native.Mathlib.Numerals.{add-one}
 use native.Mathlib.Omega.{arith}
-use borrow.Author.Tests.{eq-eqb, ne-eqb, leb-true, le-leb}
-use lib.Dec.{eqb, leb}
+use lib.Dec.{eqb}
 use lib.ListN.{length, getD, take, drop, set, replicate, drop-of-length-le}
-use lib.Seq.{take-suc, take-all, drop-drop, drop-nil}
+use lib.Seq.{take-suc, take-all, drop-drop}
 use Rattle.text.specs.Shape.{shape}
-use Rattle.text.proofs.Bools.{and-left, and-right}
 use Rattle.text.proofs.Lists.{rest-at}
 use Rattle.text.proofs.Fill.{Begun, begun-none, begun-more, begun-all}
 use Rattle.cfi.specs.Rules.{any}
-use Rattle.cfi.specs.Table.{matchesIn, wrongBy, rowMatches, rowBroken, marked}
+use Rattle.cfi.specs.Table.{matchesIn, wrongBy, rowBroken, marked}
 
 -- passing bytes is going on behind them
 pub in-skip : (cfi : List ℕ) (skip : ℕ) (text : List ℕ) → matchesIn cfi skip text ≡ matchesIn cfi 0 (drop skip text)
@@ -57,11 +55,13 @@ module _ (row patterns kinds cfi : List ℕ) {cell k q : ℕ} {w : Bool}
 
   pub row-right : w ≡ false → false ≡ rowBroken patterns kinds cfi row
   unfolding rowBroken
-  row-right e = λ i. (sym e ∙ wrong-is) i && rowMatches patterns cfi row
+  row-right e = λ i. (sym e ∙ wrong-is) i && matchesIn cfi 0 (take (getD row 5 0 - getD row 4 0) (drop (getD row 4 0) patterns))
 
-  pub row-wrong : w ≡ true → {r : Bool} → r ≡ rowMatches patterns cfi row → r ≡ rowBroken patterns kinds cfi row
+  pub row-wrong : w ≡ true → {start end : ℕ} {text : List ℕ} {r : Bool} → start ≡ getD row 4 0 → end ≡ getD row 5 0
+      → text ≡ take (end - start) (drop start patterns) → r ≡ matchesIn cfi 0 text → r ≡ rowBroken patterns kinds cfi row
   unfolding rowBroken
-  row-wrong e p = p ∙ (λ i. (sym e ∙ wrong-is) i && rowMatches patterns cfi row)
+  row-wrong e from to part p =
+      p ∙ (λ i. (sym e ∙ wrong-is) i && matchesIn cfi 0 ((part ∙ (λ j. take (to j - from j) (drop (from j) patterns))) i))
 
 -- flag by flag, that of the code is set
 marked-length : (code : ℕ) (codes : List ℕ) (found : List Bool) → length (marked code codes found) ≡ length found
@@ -181,61 +181,3 @@ module _ {rows : List (List ℕ)} {patterns codes kinds cfi : List ℕ} {found :
 pub found-end : {rows : List (List ℕ)} {patterns codes kinds cfi : List ℕ} {found : List Bool} {i : ℕ} → FoundSoFar rows patterns codes kinds cfi found i
     → length rows ≤ i → found ≡ foundIn rows patterns codes kinds cfi
 found-end {rows} {patterns} {codes} {kinds} {cfi} {i = i} so-far h = so-far .flags ∙ (λ j. foundIn (take-all i rows h j) patterns codes kinds cfi)
-
--- the row is the code's, and the CFI matches one of its patterns
-abbrev pub ownMatches : ℕ → List ℕ → List ℕ → List ℕ → Bool
-ownMatches code patterns cfi row = eqb (getD row 0 0) code && rowMatches patterns cfi row
-
--- the rows' codes rise
-unfoldable pub rising : ℕ → List (List ℕ) → Bool
-rising least [] = true
-rising least (row ∷ rows) = leb least (getD row 0 0) && rising (getD row 0 0) rows
-
-rising-from : (i least : ℕ) (rows : List (List ℕ)) → rising least rows ≡ true → rising 0 (drop i rows) ≡ true
-unfolding rising
-rising-from i least [] e = rw (drop-nil i)
-rising-from zero least (row ∷ rows) e = rw (le-leb 0 (getD row 0 0) (omega arith)) (and-right (leb least (getD row 0 0)) _ e)
-rising-from (suc i) least (row ∷ rows) e = rising-from i (getD row 0 0) rows (and-right (leb least (getD row 0 0)) _ e)
-
-module _ (code : ℕ) (patterns cfi : List ℕ) where
-  none-above : (least : ℕ) (rows : List (List ℕ)) → rising least rows ≡ true → code < least → any (ownMatches code patterns cfi) rows ≡ false
-  unfolding rising any
-  none-above least [] e h = refl
-  none-above least (row ∷ rows) e h =
-      let up : least ≤ getD row 0 0 = leb-true least (getD row 0 0) (and-left (leb least (getD row 0 0)) _ e) in
-      rw (ne-eqb (getD row 0 0) code (λ same. omega (arith, up, same)))
-      (none-above (getD row 0 0) rows (and-right (leb least (getD row 0 0)) _ e) (omega arith))
-
--- the rows before number i are not the code's, or no pattern of theirs matches
-pub record NoneSoFar (code : ℕ) (patterns cfi : List ℕ) (rows : List (List ℕ)) (i : ℕ) : Type 0 where
-  pub left : any (ownMatches code patterns cfi) rows ≡ any (ownMatches code patterns cfi) (drop i rows)
-
-pub none-start : {code : ℕ} {patterns cfi : List ℕ} {rows : List (List ℕ)} → NoneSoFar code patterns cfi rows 0
-none-start = record { left = refl }
-
-module _ {code : ℕ} {patterns cfi : List ℕ} {rows : List (List ℕ)} {i : ℕ} (so-far : NoneSoFar code patterns cfi rows i) where
-  pub none-end : length rows ≤ i → false ≡ any (ownMatches code patterns cfi) rows
-  unfolding any
-  none-end h = sym (so-far .left ∙ rw (drop-of-length-le rows h))
-
-  module _ (h : i < length rows) where
-    pub none-beyond : rising 0 rows ≡ true → code < getD (getD rows i []) 0 0 → false ≡ any (ownMatches code patterns cfi) rows
-    unfolding rising any
-    none-beyond e k =
-        let here : rising 0 (getD rows i [] ∷ drop (i + 1) rows) ≡ true = rw (rest-at [] rows i h) at (rising-from i 0 rows e) in
-        let above : rising (getD (getD rows i []) 0 0) (drop (i + 1) rows) ≡ true = and-right (leb 0 (getD (getD rows i []) 0 0)) _ here in
-        sym (so-far .left ∙ rw (rest-at [] rows i h, ne-eqb (getD (getD rows i []) 0 0) code (λ same. omega (arith, same)))
-        (none-above code patterns cfi (getD (getD rows i []) 0 0) (drop (i + 1) rows) above k))
-
-    pub none-other : (getD (getD rows i []) 0 0 ≡ code → ⊥) → NoneSoFar code patterns cfi rows (i + 1)
-    unfolding any
-    none-other e = record { left = so-far .left ∙ rw (rest-at [] rows i h, ne-eqb (getD (getD rows i []) 0 0) code e) }
-
-    module _ {r : Bool} (says : r ≡ rowMatches patterns cfi (getD rows i [])) where
-      pub none-matching : r ≡ false → NoneSoFar code patterns cfi rows (i + 1)
-      unfolding any
-      none-matching e = record { left = so-far .left ∙ rw (rest-at [] rows i h, sym says ∙ e, and-false (eqb (getD (getD rows i []) 0 0) code)) }
-
-      pub matching : getD (getD rows i []) 0 0 ≡ code → r ≡ true → true ≡ any (ownMatches code patterns cfi) rows
-      unfolding any
-      matching own e = sym (so-far .left ∙ rw (rest-at [] rows i h, eq-eqb (getD (getD rows i []) 0 0) code own, sym says ∙ e))

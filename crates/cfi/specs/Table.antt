@@ -35,13 +35,11 @@ faultValue (Not value) = value
 faultValue (UnitsAnd value) = value
 
 -- a row for each rule: code, cell, what is wrong, the value, and where its patterns start and end in the text
-abbrev pub rowOf : ℕ → Rule → List ℕ
-rowOf start r =
-    r .code ∷ r .cell ∷ faultNumber (r .fault) ∷ faultValue (r .fault) ∷ start ∷ (start + length (spaced (r .patterns))) ∷ []
-
 unfoldable pub rowsFrom : ℕ → List Rule → List (List ℕ)
 rowsFrom start [] = []
-rowsFrom start (r ∷ rs) = rowOf start r ∷ rowsFrom (start + length (spaced (r .patterns))) rs
+rowsFrom start (r ∷ rs) =
+    (r .code ∷ r .cell ∷ faultNumber (r .fault) ∷ faultValue (r .fault) ∷ start ∷ (start + length (spaced (r .patterns))) ∷ [])
+    ∷ rowsFrom (start + length (spaced (r .patterns))) rs
 
 -- the constants spell the rules
 pub record Spelled (rows : List (List ℕ)) (patterns : List ℕ) (numbers : List ℕ) : Type 0 where
@@ -64,14 +62,11 @@ wrongBy fault value quantity k =
     || (eqb fault 3 && leb 1 k && not (eqb k value))
     || (eqb fault 4 && eqb quantity 2 && eqb k value)
 
--- the CFI matches one of the patterns of a row
-abbrev pub rowMatches : List ℕ → List ℕ → List ℕ → Bool
-rowMatches patterns cfi row = matchesIn cfi 0 (take (getD row 5 0 - getD row 4 0) (drop (getD row 4 0) patterns))
-
 -- the rule that a row spells is broken
 unfoldable pub rowBroken : List ℕ → List ℕ → List ℕ → List ℕ → Bool
 rowBroken patterns kinds cfi row =
-    wrongBy (getD row 2 0) (getD row 3 0) (getD kinds 30 0) (getD kinds (getD row 1 0) 0) && rowMatches patterns cfi row
+    wrongBy (getD row 2 0) (getD row 3 0) (getD kinds 30 0) (getD kinds (getD row 1 0) 0)
+    && matchesIn cfi 0 (take (getD row 5 0 - getD row 4 0) (drop (getD row 4 0) patterns))
 
 -- the flags, with that of the code set
 unfoldable pub marked : ℕ → List ℕ → List Bool → List Bool

@@ -5,9 +5,9 @@
 // 2 on where it is present, its values counted as the paper lists them, so that what is wrong with a cell is a comparison. The
 // number of a cell with a form finding does not matter, since no rule that reads it is given; 0 stands for no value.
 ghost use mathlib.Core.Path.{_≡_};
-ghost use Rattle.cfi.specs.Rules.{codes, matchesCode, cfiFindings};
-ghost use Rattle.cfi.specs.Table.{Spelled, matchesIn, wrongBy, rowMatches, rowBroken, marked};
 ghost use mathlib.Core.List.{[], _∷_};
+ghost use Rattle.cfi.specs.Rules.{matchesCode, cfiFindings};
+ghost use Rattle.cfi.specs.Table.{Spelled, matchesIn, wrongBy, rowBroken, marked};
 ghost use lib.ListN.{length};
 use text::byte_at;
 use text::head;
@@ -160,19 +160,13 @@ fn wide(x: u16) -> usize
     x as usize
 }
 
-fn row_matches(row: &[u16; 6], patterns: &[u8], cfi: &[u8]) -> bool
-    ensures { λ r. ⌜ r ≡ rowMatches (now (patterns .entry)) (now (cfi .entry)) (now (row .entry)) ⌝ }
-{
-    matches_in(cfi, part(patterns, wide(row[4]), wide(row[5])))
-}
-
 // The cell decides first: patterns are looked at only where it is wrong.
 fn row_broken(row: &[u16; 6], patterns: &[u8], kinds: &[u8], cfi: &[u8]) -> bool
     ensures { λ r. ⌜ r ≡ rowBroken (now (patterns .entry)) (now (kinds .entry)) (now (cfi .entry)) (now (row .entry)) ⌝ }
 {
     let kind = byte_at(kinds, wide(row[1])) as u16;
     if is_wrong(row[2], row[3], byte_at(kinds, 30) as u16, kind) {
-        return row_matches(row, patterns, cfi);
+        return matches_in(cfi, part(patterns, wide(row[4]), wide(row[5])));
     }
     false
 }
@@ -215,48 +209,15 @@ fn found_in(
     found
 }
 
-// One walk to the rows of a code, by tables that spell the rules. The codes rise, so none of it stands behind a higher one.
-fn matched_in(rows: &[[u16; 6]; 22], patterns: &[u8], code: u16, cfi: &[u8]) -> bool
-    requires { ⌜ Spelled (now rows) (now patterns) codes ⌝ }
-    ensures { λ r. ⌜ r ≡ matchesCode code (now (cfi .entry)) ⌝ }
+// Whether a CFI matches a pattern of 330, and one of 350: for the rules that look at another CFI than that of cell 43. The few
+// patterns stand here again, since to make the long tables would cost more than to walk these; that they are those of 330 and 350
+// is the contract, which knows one table only.
+pub fn debt_and_bond(cfi: &[u8]) -> [bool; 2]
+    ensures { λ r. ⌜ r ≡ matchesCode 330 (now (cfi .entry)) ∷ matchesCode 350 (now (cfi .entry)) ∷ [] ⌝ }
 {
-    let mut i = 0;
-    while i < 22 {
-        let row = rows[i];
-        if code < row[0] {
-            return false;
-        }
-        if row[0] == code {
-            if row_matches(&row, patterns, cfi) {
-                return true;
-            }
-        }
-        i += 1;
-    }
-    false
-}
-
-fn matched_both(
-    rows: &[[u16; 6]; 22],
-    patterns: &[u8],
-    one: u16,
-    other: u16,
-    cfi: &[u8],
-) -> [bool; 2]
-    requires { ⌜ Spelled (now rows) (now patterns) codes ⌝ }
-    ensures { λ r. ⌜ r ≡ matchesCode one (now (cfi .entry)) ∷ matchesCode other (now (cfi .entry)) ∷ [] ⌝ }
-{
-    let first = matched_in(rows, patterns, one, cfi);
-    let second = matched_in(rows, patterns, other, cfi);
-    [first, second]
-}
-
-// Of two codes, whether the CFI matches a pattern of one of their rules, whatever the cells hold: for rules that look at another
-// CFI than that of cell 43. Two at a time, since the tables are made at each call.
-pub fn matches_codes(one: u16, other: u16, cfi: &[u8]) -> [bool; 2]
-    ensures { λ r. ⌜ r ≡ matchesCode one (now (cfi .entry)) ∷ matchesCode other (now (cfi .entry)) ∷ [] ⌝ }
-{
-    matched_both(&ROWS, &PATTERNS, one, other, cfi)
+    let debt = matches_in(cfi, b"D***** ");
+    let bond = matches_in(cfi, b"DB**** DC**** DT**** DN**** ");
+    [debt, bond]
 }
 
 // Of each of the 19 codes by CFI, in rising order, whether it is violated. Every pattern has six letters, and most lines have

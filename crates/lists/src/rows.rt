@@ -4,7 +4,7 @@ ghost use Prim.Native.Nat.{_≤_};
 ghost use Rattle.lists.specs.Row.{inDays};
 ghost use Rattle.lists.specs.Questions.{rowSays};
 use crate::frame::Mark;
-use cfi::matches_codes;
+use cfi::debt_and_bond;
 use text::byte_at;
 use text::le32;
 use text::part;
@@ -78,13 +78,13 @@ fn venue_says(row: &[u8], day: u32) -> Answers
     }
 }
 
-// Debt and bonds are what 330 and 350 take for such, by the same patterns.
+// Debt and bonds are what 330 and 350 take for such.
 fn instrument_says(row: &[u8], day: u32) -> Answers
     ensures { λ r. ⌜ r ≡ rowSays Mark.Ins day (now (row .entry)) ⌝ }
 {
     let cfi = part(row, 12, 18);
     let on = in_days(row, 18, day);
-    let matched = matches_codes(330, 350, cfi);
+    let matched = debt_and_bond(cfi);
     Answers {
         first: on,
         second: matched[0] & on,

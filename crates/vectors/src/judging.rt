@@ -31,12 +31,14 @@ fn small(s: &[u8]) -> u8 {
     (text::number_in(s) % 256) as u8
 }
 
-// cfi.USUAL.CELL.KIND on a CFI: every cell is of the usual kind but one; matches.CODE on a CFI.
+// cfi.USUAL.CELL.KIND on a CFI: every cell is of the usual kind but one; debt and bond on a CFI.
 pub fn of_cfi(call: &[u8], input: &[u8]) -> u64 {
-    if text::starts_with(call, b"matches.") {
-        let code = (text::number_in(word(call, 1)) % 65536) as u16;
-        let matched = cfi::matches_codes(code, code, input);
-        return yes(matched[0] & matched[1]);
+    let matched = cfi::debt_and_bond(input);
+    if text::same(call, b"debt") {
+        return yes(matched[0]);
+    }
+    if text::same(call, b"bond") {
+        return yes(matched[1]);
     }
     if !text::starts_with(call, b"cfi.") {
         return UNKNOWN;

@@ -24,7 +24,7 @@ loop-again : tie.Need-loop-again Inv-loop μ-loop
 loop-again c = ⊎-elim (λ w. found-more (c .before .before .before .before .before .loop .inv) (omega (arith, spelled-rows (c .before .before .before .before .before .before .before .before .before .pre))) (c .before .row-broken .ensures) (w .0 .taken) (w .2 ∙ w .1 .ensures)) (λ w. found-same (c .before .before .before .before .before .loop .inv) (omega (arith, spelled-rows (c .before .before .before .before .before .before .before .before .before .pre))) (c .before .row-broken .ensures) (w .0 .left) (w .1)) (c .if1 .came)
 
 returns : tie.Need-returns Inv-loop μ-loop
-returns c = found-end (c .before .loop .inv) (omega (arith, spelled-rows (c .before .before .before .before .before .pre))) ∙ found-is (c .before .before .before .before .before .pre) (c .before .before .before .before .before .args .kinds .now) (c .before .before .before .before .before .args .cfi .now)
+returns c = found-end (c .before .loop .inv) (omega (arith, spelled-rows (c .before .before .before .before .before .pre))) ∙ found-is (c .before .before .before .before .before .args .kinds .now) (c .before .before .before .before .before .args .cfi .now) (c .before .before .before .before .before .pre)
 
 pub found-in-spec : {M : Type 1} → statement M
 found-in-spec =

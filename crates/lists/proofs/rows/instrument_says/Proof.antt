@@ -10,7 +10,7 @@ use borrow.Author.Needs.{needs}
 returns : tie.Need-returns
 returns c =
     let on = (c .before .in-days) .ensures in
-    let matched = (c .matches-codes) .ensures ∙ (λ i. matchesCode 330 ((c .before .before .part) .ensures i) ∷ matchesCode 350 ((c .before .before .part) .ensures i) ∷ []) in
+    let matched = (c .debt-and-bond) .ensures ∙ (λ i. matchesCode 330 ((c .before .before .part) .ensures i) ∷ matchesCode 350 ((c .before .before .part) .ensures i) ∷ []) in
     λ i. record { first = on i; second = getD (matched i) 0 false && on i; third = getD (matched i) 1 false && on i }
 
 pub instrument-says-spec : {M : Type 1} → statement M
