@@ -12,7 +12,7 @@ use borrow.Author.Tests.{lt-ltb, leb-true, leb-false}
 use Rattle.text.specs.FirstFrom.{firstFrom}
 use Rattle.text.proofs.Bools.{by-test}
 use Rattle.judge.specs.Refusal.{early}
-use Rattle.judge.specs.Outcome.{outcome, refusedOutcome}
+use Rattle.judge.specs.Outcome.{refusedOutcome}
 use Rattle.judge.proofs.Cases.{out-early}
 use Rattle.checker.specs.Bare.{bare}
 use Rattle.checker.specs.Setting.{called}

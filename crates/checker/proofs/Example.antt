@@ -6,10 +6,10 @@ use lib.ListN.{replicate}
 use Rattle.text.specs.Ascii.{ascii}
 use Rattle.text.specs.Class.{allOf}
 use Rattle.text.specs.FirstFrom.{firstFrom}
-use Rattle.text.specs.Number.{digitOf, numeral, numberOf, twoDigits, fourDigits}
+use Rattle.text.specs.Number.{digitOf}
 use Rattle.text.specs.Shape.{suits, shape}
-use Rattle.text.specs.Word.{startsWith, same, among, oneOf}
-use Rattle.calendar.specs.Day.{leap, monthLength, yearLength, isDay, sum, dayNumber}
+use Rattle.text.specs.Word.{startsWith, same}
+use Rattle.calendar.specs.Day.{monthLength, isDay}
 use Rattle.calendar.specs.Moments.{isMoment}
 use Rattle.ident.specs.Written.{valueOf, digitsOf, writtenDigits, decimal}
 use Rattle.cells.specs.Cells.{cellsOf, cell}
@@ -17,15 +17,14 @@ use Rattle.forms.specs.Findings.{statusOf, formFinding, formFindings}
 use Rattle.forms.specs.Forms.{holds, formOf}
 use Rattle.lists.specs.Frame.{framedAs}
 use Rattle.lists.specs.Rows.{chunks, rowsFrom, some}
-use Rattle.register.specs.Frame.{used, capacity, framed, full, isUsed}
-use Rattle.register.specs.Pair.{filled, pairBytes}
+use Rattle.register.specs.Frame.{used, capacity, framed, full}
+use Rattle.register.specs.Pair.{pairBytes}
 use Rattle.register.specs.Rows.{rowsIn, ownFrom, look, firstRow, standing}
-use Rattle.cfi.specs.Rules.{words, rules, any, matches, broken, violated}
 use Rattle.facts.specs.Rules.{goodCells, pairStands, holdings, flags}
 use Rattle.facts.specs.Words.{leiGoodUnlapsed, leiGood, leiWrong}
 use Rattle.verdict.specs.Codes.{ruleCodes, formCodes, codes}
 use Rattle.verdict.specs.Verdict.{wordOf, pick, verdictOf, refusedBy}
-use Rattle.judge.specs.Outcome.{written, outcome}
+use Rattle.judge.specs.Outcome.{outcome}
 use Rattle.judge.specs.Refusal.{allFlags, clean, noRoom, refusal}
 use Rattle.checker.specs.Bare.{bare}
 use Rattle.checker.specs.Lines.{unended, linesFrom}
@@ -38,5 +37,5 @@ example =
     ascii "h\nCXL|R1||00000000000000000098||00000000000000000098" ++ (replicate 59 124 ++ ascii "\nx\n")
 
 pub papers-example : programWrites example ≡ ascii "2 0 2 24 60\n3 10 0\n"
-unfolding allOf firstFrom digitOf numeral numberOf twoDigits fourDigits suits shape startsWith same among oneOf leap monthLength yearLength isDay sum dayNumber isMoment valueOf digitsOf writtenDigits decimal cellsOf cell statusOf formFinding formFindings holds formOf framedAs chunks rowsFrom some used capacity framed full isUsed filled pairBytes rowsIn ownFrom look firstRow standing words rules any matches broken violated goodCells pairStands holdings flags leiGoodUnlapsed leiGood leiWrong ruleCodes formCodes codes wordOf pick verdictOf refusedBy written outcome allFlags clean noRoom refusal bare unended linesFrom digitsOf-printed spaced printed judged answers programWrites
+unfolding allOf firstFrom digitOf suits shape startsWith same monthLength isDay isMoment valueOf digitsOf writtenDigits decimal cellsOf cell statusOf formFinding formFindings holds formOf framedAs chunks rowsFrom some used capacity framed full pairBytes rowsIn ownFrom look firstRow standing goodCells pairStands holdings flags leiGoodUnlapsed leiGood leiWrong ruleCodes formCodes codes wordOf pick verdictOf refusedBy outcome allFlags clean noRoom refusal bare unended linesFrom digitsOf-printed spaced printed judged answers programWrites
 papers-example = refl

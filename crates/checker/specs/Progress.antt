@@ -125,7 +125,8 @@ pub record Reached (p q : Progress) : Type 0 where
   pub bytes : List ℕ
   pub there : q ≡ after p bytes
 
--- Reads go on until the input has ended, or until it has had more bytes than any input: all but so many of the turns are done.
+-- Reads go on until the input has ended. Each gives a byte at least, so where it has not, there were 2^64 - 1 bytes, but for the
+-- turns that are left.
 pub record ReadOn (p q : Progress) (ended : Bool) (turns : ℕ) : Type 0 where
   pub reached : Reached p q
   pub not-early : ended ≡ false → 18446744073709551615 ≤ turns + length (reached .bytes)

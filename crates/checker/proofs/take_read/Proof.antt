@@ -1,4 +1,3 @@
-use borrow.Author.Needs.{needs}
 use Rattle.checker.proofs.take_read.Statement.{statement}
 use Rattle.checker.proofs.take_read.Tie as tie
 use Rattle.checker.proofs.ProgressLaws.{read-failed, read-none, read-more}
@@ -7,33 +6,13 @@ use mathlib.Core.Path.{_∙_, ap}
 use lib.IntN.{ℤ}
 use lib.ListN.{length}
 use mir.Facts.{toZ-ofZ}
-
-slice-aggregate-broken-off : tie.Need-slice-aggregate-broken-off
-slice-aggregate-broken-off c = search needs
-
-broken-off-requires : tie.Need-broken-off-requires
-broken-off-requires c κs = search needs
+use borrow.Author.Needs.{needs}
 
 returns : tie.Need-returns
 returns c = read-failed ((c .broken-off) .ensures .1)
 
-count-requires : tie.Need-count-requires
-count-requires c κs = search needs
-
 returns-2 : tie.Need-returns-2
 returns-2 c = read-none ((c .before .before .before .before .before .before .args) .got) ((c .before .before .before .before .before .before .args) .chunk .now) ((c .before .count) .ensures .0) ((c .before .count) .ensures .1 ∙ ap (λ (z : ℤ). clamped z (length (c .before .before .before .before .before .before .args .chunk .now))) (toZ-ofZ (c .before .before .before .before .before .before .fits .got))) ((c .if2) .taken)
-
-head-requires : tie.Need-head-requires
-head-requires c κs = search needs
-
-take-chunk-requires : tie.Need-take-chunk-requires
-take-chunk-requires c κs = search needs
-
-same-length : tie.Need-same-length
-same-length c = search needs
-
-same-length-2 : tie.Need-same-length-2
-same-length-2 c = search needs
 
 returns-3 : tie.Need-returns-3
 returns-3 c = read-more ((c .before .before .before .before .before .before .before .before .before .before .before .before .before .before .args) .got) ((c .before .before .before .before .before .before .before .before .before .before .before .before .before .before .args) .chunk .now) ((c .before .before .before .before .before .before .before .before .before .count) .ensures .0) ((c .before .before .before .before .before .before .before .before .before .count) .ensures .1 ∙ ap (λ (z : ℤ). clamped z (length (c .before .before .before .before .before .before .before .before .before .before .before .before .before .before .args .chunk .now))) (toZ-ofZ (c .before .before .before .before .before .before .before .before .before .before .before .before .before .before .fits .got))) ((c .before .before .before .before .before .before .before .before .if2) .left) (rw ((c .before .before .before .before .before .before .before .head) .ensures) at ((c .before .before .before .before .take-chunk) .ensures))
@@ -42,13 +21,13 @@ pub take-read-spec : {M : Type 1} → statement M
 take-read-spec =
     tie.close
     (tie.spec
-    slice-aggregate-broken-off
-    broken-off-requires
+    (λ c. search needs)
+    (λ c κs. search needs)
     returns
-    count-requires
+    (λ c κs. search needs)
     returns-2
-    head-requires
-    take-chunk-requires
-    same-length
-    same-length-2
+    (λ c κs. search needs)
+    (λ c κs. search needs)
+    (λ c. search needs)
+    (λ c. search needs)
     returns-3)
