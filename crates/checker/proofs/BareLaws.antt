@@ -1,4 +1,4 @@
--- A line without a CR at its end, by its last byte; and why 4,098 bytes of a line are enough.
+-- A line without a CR at its end, by its last byte.
 use mathlib.Core.Path.{_≡_, refl}
 use mathlib.Core.Bool.{Bool, true, false, cond}
 use mathlib.Core.List.{List, [], _∷_}
