@@ -42,16 +42,16 @@ matches-spaced cfi ((b ∷ p) ∷ ps) e =
 
 -- the patterns of 330 and of 350, as they stand in the code a second time
 module _ (cfi : List ℕ) where
-  own-text : (ps : List (List ℕ)) → six ps ≡ true → matchesIn cfi 0 (spaced ps) ≡ (matches ps cfi || false)
-  own-text ps e = matches-spaced cfi ps e ∙ sym (or-false (matches ps cfi))
+  own-text : (ps : List (List ℕ)) (text : List ℕ) → text ≡ spaced ps → six ps ≡ true → matchesIn cfi 0 text ≡ (matches ps cfi || false)
+  own-text ps text is e = (λ i. matchesIn cfi 0 (is i)) ∙ matches-spaced cfi ps e ∙ sym (or-false (matches ps cfi))
 
   pub debt-text : matchesIn cfi 0 (ascii "D***** ") ≡ matchesCode 330 cfi
   unfolding matchesCode any rules words spaced six
-  debt-text = own-text (words [] (ascii "D*****")) refl
+  debt-text = own-text _ _ refl refl
 
   pub bond-text : matchesIn cfi 0 (ascii "DB**** DC**** DT**** DN**** ") ≡ matchesCode 350 cfi
   unfolding matchesCode any rules words spaced six
-  bond-text = own-text (words [] (ascii "DB**** DC**** DT**** DN****")) refl
+  bond-text = own-text _ _ refl refl
 
 -- a fault by its number is the fault
 wrong-by : (f : Fault) (quantity k : ℕ) → wrongBy (faultNumber f) (faultValue f) quantity k ≡ wrong f quantity k
