@@ -30,9 +30,6 @@ cell-before-determined κs a x y s t = same-both
 pub first-determined : Seen first-kinds.ps first-kinds.r (λ κs x. x .now) first-reads.Post
 first-determined κs a x y s t = same-both
 
-pub step-from-determined : Determined step-from-kinds.ps step-from-kinds.r step-from-reads.Post
-step-from-determined κs a x y s t = same-both
-
 -- `new` and `step` have a contract in the program logic alone
 pub new-determined : DeterminedByHand new.ended (λ M 𝓤 H. new.clauses 𝓤 H)
 new-determined M 𝓤 H A mem run κs a g x y s t = from-both 𝓤 _ _ _ same-both
@@ -43,3 +40,6 @@ shown t = (t .cell .now, (t .next, t .done))
 pub step-determined : SeenByHand step.ended (λ κs t. shown t) (λ M 𝓤 H. step.clauses 𝓤 H)
 step-determined M 𝓤 H A mem run κs a g x y s t =
     from-both 𝓤 _ _ _ (λ p q i. (same-both (p .hands) (q .hands) i, (same-both (p .places) (q .places) i, same-both (p .ends) (q .ends) i)))
+
+pub step-from-determined : Determined step-from-kinds.ps step-from-kinds.r step-from-reads.Post
+step-from-determined κs a x y s t = same-both
