@@ -1,4 +1,5 @@
--- Laws of the good cells and of how a pair stands.
+-- Laws of the good cells, of what is asked, and of how a pair stands.
 mod GoodCells
+pub mod FromAsked
 pub mod Registers
 mod Unique

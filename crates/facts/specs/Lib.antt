@@ -2,4 +2,5 @@
 pub mod Call
 pub mod Words
 pub mod Rules
+pub mod Asked
 pub mod Facts

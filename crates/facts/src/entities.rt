@@ -1,14 +1,8 @@
 // The LEIs of the executing and the submitting entity, and of the firms that transmitted an order.
 ghost use mathlib.Core.Path.{_≡_};
 ghost use Rattle.cells.specs.Split.{Tabled};
-ghost use Rattle.facts.specs.Words.{leiWrong};
-ghost use Rattle.facts.specs.Facts.{leiFit, entityOf};
-
-// A LEI is good on a day: for status 1, 3 or 4, and for any of 1 to 4.
-pub struct LeiFit {
-    pub unlapsed: bool,
-    pub any: bool,
-}
+ghost use Rattle.facts.specs.Facts.{entityFrom};
+use crate::answers::EntityAsked;
 
 pub struct EntityFacts {
     // 040 and 041
@@ -21,48 +15,26 @@ pub struct EntityFacts {
     pub sellers_firm: bool,
 }
 
-// The list is read only for a LEI whose check digits are right.
-pub fn lei_fit(lei: &[u8], s: &[u8], day: u32) -> LeiFit
-    ensures { λ r. ⌜ r ≡ leiFit (now (lei .entry)) (now (s .entry)) day ⌝ }
-{
-    if ident::lei_right(s) {
-        let rows = lists::lei_rows(lei, s, day);
-        return LeiFit {
-            unlapsed: rows.unlapsed,
-            any: rows.any,
-        };
-    }
-    LeiFit {
-        unlapsed: false,
-        any: false,
-    }
-}
-
-pub fn lei_wrong(lei: &[u8], s: &[u8], day: u32) -> bool
-    ensures { λ r. ⌜ r ≡ leiWrong (now (lei .entry)) (now (s .entry)) day ⌝ }
-{
-    (s.len() != 0) & !lei_fit(lei, s, day).any
-}
-
-// Cells 4, 5, 6, 26 and 27, on T and on the submission day.
+// Cells 4, 5, 6, 26 and 27, with what was asked.
 pub fn entity_facts<'a, 't>(
     line: &'a [u8],
     starts: &'t [usize; 65],
     ends: &'t [usize; 65],
-    lei: &[u8],
-    t: u32,
-    day: u32,
+    asked: EntityAsked,
 ) -> EntityFacts
     requires { ⌜ Tabled (now line) (now starts) (now ends) ⌝ }
-    ensures { λ r. ⌜ r ≡ entityOf (now (line .entry)) (now (lei .entry)) t day ⌝ }
+    ensures { λ r. ⌜ r ≡ entityFrom (now (line .entry)) asked ⌝ }
 {
-    let own = lei_fit(lei, cells::cell(line, starts, ends, 4), t);
+    let executing = asked.executing;
+    let submitting = asked.submitting;
+    let buyers_firm = asked.buyers_firm;
+    let sellers_firm = asked.sellers_firm;
     let c5 = cells::cell(line, starts, ends, 5);
     EntityFacts {
-        member: text::same(c5, b"TRUE") & !own.unlapsed,
-        other: text::same(c5, b"FALSE") & !own.any,
-        submitter: !lei_fit(lei, cells::cell(line, starts, ends, 6), day).any,
-        buyers_firm: lei_wrong(lei, cells::cell(line, starts, ends, 26), t),
-        sellers_firm: lei_wrong(lei, cells::cell(line, starts, ends, 27), t),
+        member: text::same(c5, b"TRUE") & !executing.unlapsed,
+        other: text::same(c5, b"FALSE") & !executing.any,
+        submitter: !submitting.any,
+        buyers_firm: (cells::cell(line, starts, ends, 26).len() != 0) & !buyers_firm.any,
+        sellers_firm: (cells::cell(line, starts, ends, 27).len() != 0) & !sellers_firm.any,
     }
 }

@@ -1,27 +1,26 @@
 // All facts of a line.
 ghost use mathlib.Core.Path.{_≡_};
 ghost use mathlib.Core.Bool.{false, not};
-ghost use mathlib.Core.List.{List, _∷_, map};
-ghost use Prim.Native.Nat.{ℕ};
+ghost use mathlib.Core.List.{_∷_, map};
 ghost use Rattle.cells.specs.Split.{Tabled};
 ghost use Rattle.forms.specs.Findings.{formFindings};
-ghost use Rattle.facts.specs.Call.{call};
+ghost use Rattle.forms.specs.Read.{readOf};
 ghost use Rattle.facts.specs.Words.{isLive, isAbsent, isCancelled};
-ghost use Rattle.facts.specs.Rules.{pairStands};
-ghost use Rattle.facts.specs.Facts.{dealOf, factsOf};
+ghost use Rattle.facts.specs.Facts.{dealOf, countryFrom, factsFrom};
+use crate::answers::Asked;
 use crate::entities::EntityFacts;
 use crate::entities::entity_facts;
 use crate::money::MoneyFacts;
 use crate::money::money_facts;
 use crate::parties::PartiesFacts;
-use crate::parties::country_wrong;
 use crate::parties::parties_facts;
 use crate::times::TimeFacts;
-use crate::times::moment_of;
 use crate::times::time_facts;
+use crate::times::trade_day;
 use crate::trades::TradeFacts;
 use crate::trades::holdings;
 use crate::trades::trade_facts;
+use forms::Read;
 use register::Standing;
 
 pub struct DealFacts {
@@ -117,43 +116,51 @@ fn deal_facts<'a, 't>(
     }
 }
 
-// The line's split, its form findings, the five lists, how its pair stands in the register, and the submission moment.
+// A country cell is present, and its code is not known.
+fn country_wrong(s: &[u8], known: bool) -> bool
+    ensures { λ r. ⌜ r ≡ countryFrom (now (s .entry)) known ⌝ }
+{
+    (s.len() != 0) & !known
+}
+
+// The line's split, its form findings, what was read of it, what the lists say of it, how its pair stands in the register, and the submission moment.
 pub fn line_facts<'a, 't>(
     line: &'a [u8],
     starts: &'t [usize; 65],
     ends: &'t [usize; 65],
     found: &[bool; 65],
-    lei: &[u8],
-    cty: &[u8],
-    ccy: &[u8],
-    ven: &[u8],
-    ins: &[u8],
+    read: Read,
+    asked: Asked,
     standing: Standing,
     day: u32,
     micro: u64,
 ) -> Facts
-    requires { ⌜ Tabled (now line) (now starts) (now ends) × (now found ≡ formFindings (now line)) ⌝ }
-    ensures { λ r. ⌜ ((register : List ℕ) → standing ≡ pairStands register (now (line .entry)) → r ≡ factsOf (call (now (line .entry)) (now (lei .entry)) (now (cty .entry)) (now (ccy .entry)) (now (ven .entry)) (now (ins .entry)) register day micro)) ⌝ }
+    requires { ⌜ Tabled (now line) (now starts) (now ends) × (now found ≡ formFindings (now line)) × (read ≡ readOf (now line)) ⌝ }
+    ensures { λ r. ⌜ r ≡ factsFrom (now (line .entry)) read asked standing day micro ⌝ }
 {
-    let moment = moment_of(cells::cell(line, starts, ends, 28));
-    let t = moment.day;
-    let parties = parties_facts(line, starts, ends, lei, cty, ven, t);
+    let t = trade_day(read);
+    let asked_parties = asked.parties;
+    let asked_entity = asked.entity;
+    let asked_money = asked.money;
+    let venue = asked.venue;
+    let instrument = asked.instrument;
+    let parties = parties_facts(line, starts, ends, read, asked_parties, t);
     let buyer = parties.buyer;
     let seller = parties.seller;
     let own = buyer.entity | seller.entity;
-    let held = holdings(line, starts, ends);
+    let held = holdings(line, starts, ends, read);
     Facts {
         ok: good_cells(found),
         live: is_live(standing),
-        entity: entity_facts(line, starts, ends, lei, t, day),
+        entity: entity_facts(line, starts, ends, asked_entity),
         parties,
-        country8: country_wrong(cty, cells::cell(line, starts, ends, 8), t),
-        country17: country_wrong(cty, cells::cell(line, starts, ends, 17), t),
-        country37: country_wrong(cty, cells::cell(line, starts, ends, 37), t),
-        time: time_facts(line, starts, ends, moment, day, micro),
+        country8: country_wrong(cells::cell(line, starts, ends, 8), asked.country8),
+        country17: country_wrong(cells::cell(line, starts, ends, 17), asked.country17),
+        country37: country_wrong(cells::cell(line, starts, ends, 37), asked.country37),
+        time: time_facts(line, starts, ends, read, day, micro),
         deal: deal_facts(line, starts, ends, own),
-        money: money_facts(line, starts, ends, ccy, t),
-        trade: trade_facts(line, starts, ends, ven, ins, &held, t),
+        money: money_facts(line, starts, ends, asked_money),
+        trade: trade_facts(line, starts, ends, venue, instrument, &held),
         cfi: cfi::cfi_findings(&held, cells::cell(line, starts, ends, 43)),
     }
 }

@@ -1,8 +1,10 @@
 // Currencies.
 ghost use mathlib.Core.Path.{_≡_};
 ghost use Rattle.cells.specs.Split.{Tabled};
-ghost use Rattle.facts.specs.Words.{noMoney, currencyWrong, quantityCurrencyWrong, secondCurrency};
-ghost use Rattle.facts.specs.Facts.{moneyOf};
+ghost use Rattle.facts.specs.Words.{noMoney, secondCurrency};
+ghost use Rattle.facts.specs.Facts.{currencyFrom, quantityCurrencyFrom, moneyFrom};
+use crate::answers::MoneyAsked;
+use lists::CurrencyRows;
 
 pub struct MoneyFacts {
     // 310, 340, 440, 451 and 520
@@ -19,22 +21,20 @@ fn is_no_money(s: &[u8]) -> bool
     text::one_of(s, b"XAGXAUXBAXBBXBCXBDXDRXEUXFUXPDXPTXXX", 3)
 }
 
-fn currency_wrong(ccy: &[u8], s: &[u8], day: u32) -> bool
-    ensures { λ r. ⌜ r ≡ currencyWrong (now (ccy .entry)) (now (s .entry)) day ⌝ }
+fn currency_wrong(s: &[u8], rows: CurrencyRows) -> bool
+    ensures { λ r. ⌜ r ≡ currencyFrom (now (s .entry)) rows ⌝ }
 {
-    let rows = lists::currency_rows(ccy, s, day);
     (s.len() != 0) & (is_no_money(s) | !rows.current)
 }
 
-fn quantity_currency_wrong(ccy: &[u8], s: &[u8], day: u32) -> bool
-    ensures { λ r. ⌜ r ≡ quantityCurrencyWrong (now (ccy .entry)) (now (s .entry)) day ⌝ }
+fn quantity_currency_wrong(s: &[u8], rows: CurrencyRows) -> bool
+    ensures { λ r. ⌜ r ≡ quantityCurrencyFrom (now (s .entry)) rows ⌝ }
 {
-    let rows = lists::currency_rows(ccy, s, day);
     (s.len() != 0) & (is_no_money(s) | !(rows.current | rows.pre_euro))
 }
 
 // The currency of cell 45, behind FX: or INTRST:.
-fn second_currency(s: &[u8]) -> &[u8]
+pub fn second_currency(s: &[u8]) -> &[u8]
     ensures { λ r. ⌜ now r ≡ secondCurrency (now (s .entry)) ⌝ }
 {
     if text::starts_with(s, b"FX:") {
@@ -46,23 +46,27 @@ fn second_currency(s: &[u8]) -> &[u8]
     text::head(s, 0)
 }
 
-// Cells 31, 34, 44, 45 and 52, on T.
+// Cells 31, 34, 44, 45 and 52, with what was asked.
 pub fn money_facts<'a, 't>(
     line: &'a [u8],
     starts: &'t [usize; 65],
     ends: &'t [usize; 65],
-    ccy: &[u8],
-    t: u32,
+    asked: MoneyAsked,
 ) -> MoneyFacts
     requires { ⌜ Tabled (now line) (now starts) (now ends) ⌝ }
-    ensures { λ r. ⌜ r ≡ moneyOf (now (line .entry)) (now (ccy .entry)) t ⌝ }
+    ensures { λ r. ⌜ r ≡ moneyFrom (now (line .entry)) asked ⌝ }
 {
-    let second = second_currency(cells::cell(line, starts, ends, 45));
+    let quantity = asked.quantity;
+    let price = asked.price;
+    let notional = asked.notional;
+    let second = asked.second;
+    let strike = asked.strike;
+    let c45 = second_currency(cells::cell(line, starts, ends, 45));
     MoneyFacts {
-        quantity: quantity_currency_wrong(ccy, cells::cell(line, starts, ends, 31), t),
-        price: currency_wrong(ccy, cells::cell(line, starts, ends, 34), t),
-        notional: currency_wrong(ccy, cells::cell(line, starts, ends, 44), t),
-        second: currency_wrong(ccy, second, t),
-        strike: currency_wrong(ccy, cells::cell(line, starts, ends, 52), t),
+        quantity: quantity_currency_wrong(cells::cell(line, starts, ends, 31), quantity),
+        price: currency_wrong(cells::cell(line, starts, ends, 34), price),
+        notional: currency_wrong(cells::cell(line, starts, ends, 44), notional),
+        second: currency_wrong(c45, second),
+        strike: currency_wrong(cells::cell(line, starts, ends, 52), strike),
     }
 }

@@ -1,14 +1,14 @@
 // The four parties with their dates: buyer 7 and 11, its decision maker 12 and 15, seller 16 and 20, its decision maker 21 and 24.
 ghost use mathlib.Core.Path.{_≡_};
-ghost use mathlib.Core.Bool.{not, _&&_, _||_};
 ghost use Rattle.cells.specs.Split.{Tabled};
-ghost use Rattle.cells.specs.Cells.{cell};
-ghost use Rattle.facts.specs.Words.{off, leiGood, countryWrong, kind1, kind3};
-ghost use Rattle.facts.specs.Facts.{partyFactsOf, partiesOf};
-use crate::entities::lei_fit;
-use crate::times::day_of;
-use crate::times::is_late;
-use ident::Allowed;
+ghost use Rattle.facts.specs.Words.{off};
+ghost use Rattle.facts.specs.Facts.{partyFrom, partiesFrom};
+use crate::answers::PartiesAsked;
+use crate::answers::PartyAsked;
+use crate::times::day_in;
+use calendar::Date;
+use forms::Read;
+use ident::Party;
 
 pub struct PartyFacts {
     // 070, 071, 072, 073, 074 and 110 of the buyer, and their kin
@@ -36,59 +36,32 @@ pub fn is_off(s: &[u8]) -> bool
     text::same(s, b"XXXX") | text::same(s, b"XOFF")
 }
 
-pub fn country_wrong(cty: &[u8], s: &[u8], day: u32) -> bool
-    ensures { λ r. ⌜ r ≡ countryWrong (now (cty .entry)) (now (s .entry)) day ⌝ }
-{
-    (s.len() != 0) & !lists::country_known(cty, s, day)
-}
-
-// A party that is a LEI, and no good one. A CONCAT is as long as a LEI, so the list is read only where the kind is right.
-fn lei_unfit(is_lei: bool, lei: &[u8], part: &[u8], day: u32) -> bool
-    ensures { λ r. ⌜ r ≡ («is_lei» && not (leiGood (now (lei .entry)) (now (part .entry)) day)) ⌝ }
-{
-    if is_lei {
-        return !lei_fit(lei, part, day).any;
-    }
-    false
-}
-
-// A party that is a MIC, and none of a venue of kind 1 or 3.
-fn mic_unfit(is_mic: bool, ven: &[u8], part: &[u8], day: u32) -> bool
-    ensures { λ r. ⌜ r ≡ («is_mic» && (off (now (part .entry)) || not (kind1 (now (ven .entry)) (now (part .entry)) day || kind3 (now (ven .entry)) (now (part .entry)) day))) ⌝ }
-{
-    if is_mic {
-        let rows = lists::venue_rows(ven, part, day);
-        return is_off(part) | !(rows.kind1 | rows.kind3);
-    }
-    false
-}
-
-// A party cell of the kinds that it allows, with its date, on T.
+// The party that a cell names, with its date, the day that it writes and what was asked of it, on T.
 pub fn party_facts(
-    allowed: Allowed,
-    lei: &[u8],
-    cty: &[u8],
-    ven: &[u8],
+    party: Party,
     s: &[u8],
-    date: &[u8],
+    dated: bool,
+    date: Date,
     entity: &[u8],
+    asked: PartyAsked,
     t: u32,
 ) -> PartyFacts
-    ensures { λ r. ⌜ r ≡ partyFactsOf allowed (now (lei .entry)) (now (cty .entry)) (now (ven .entry)) (now (s .entry)) (now (date .entry)) (now (entity .entry)) t ⌝ }
+    ensures { λ r. ⌜ r ≡ partyFrom party (now (s .entry)) dated date (now (entity .entry)) asked t ⌝ }
 {
-    let party = ident::parse_party(s, allowed);
     let kind = party.identifier;
     let part = ident::part_of(s, kind);
     let is_lei = ident::is_lei(kind);
     let is_person = ident::is_person(kind);
-    let born = (date.len() != 0) & (ident::concat_day(part) != day_of(date));
+    let day = day_in(date);
+    let born = dated & (ident::concat_day(part) != day);
+    let foreign = (ident::country_of(part).len() != 0) & !asked.country;
     PartyFacts {
-        lei: lei_unfit(is_lei, lei, part, t),
-        country: is_person & country_wrong(cty, ident::country_of(part), t),
-        mic: mic_unfit(ident::is_mic(kind), ven, part, t),
+        lei: is_lei & !asked.lei,
+        country: is_person & foreign,
+        mic: ident::is_mic(kind) & (is_off(part) | !asked.mic),
         birth: ident::is_concat(kind) & party.shaped & born,
         shape: is_person & !party.shaped,
-        late: is_late(date, t),
+        late: dated & (t < day),
         entity: is_lei & text::same(part, entity),
     }
 }
@@ -97,27 +70,38 @@ pub fn parties_facts<'a, 't>(
     line: &'a [u8],
     starts: &'t [usize; 65],
     ends: &'t [usize; 65],
-    lei: &[u8],
-    cty: &[u8],
-    ven: &[u8],
+    read: Read,
+    asked: PartiesAsked,
     t: u32,
 ) -> PartiesFacts
     requires { ⌜ Tabled (now line) (now starts) (now ends) ⌝ }
-    ensures { λ r. ⌜ r ≡ partiesOf (now (line .entry)) (now (lei .entry)) (now (cty .entry)) (now (ven .entry)) t ⌝ }
+    ensures { λ r. ⌜ r ≡ partiesFrom (now (line .entry)) read asked t ⌝ }
 {
+    let party7 = read.buyer;
+    let party12 = read.buyer_for;
+    let party16 = read.seller;
+    let party21 = read.seller_for;
+    let date11 = read.date11;
+    let date15 = read.date15;
+    let date20 = read.date20;
+    let date24 = read.date24;
+    let asked7 = asked.buyer;
+    let asked12 = asked.buyer_for;
+    let asked16 = asked.seller;
+    let asked21 = asked.seller_for;
     let entity = cells::cell(line, starts, ends, 4);
     let c7 = cells::cell(line, starts, ends, 7);
-    let c11 = cells::cell(line, starts, ends, 11);
     let c12 = cells::cell(line, starts, ends, 12);
-    let c15 = cells::cell(line, starts, ends, 15);
     let c16 = cells::cell(line, starts, ends, 16);
-    let c20 = cells::cell(line, starts, ends, 20);
     let c21 = cells::cell(line, starts, ends, 21);
-    let c24 = cells::cell(line, starts, ends, 24);
+    let dated11 = cells::cell(line, starts, ends, 11).len() != 0;
+    let dated15 = cells::cell(line, starts, ends, 15).len() != 0;
+    let dated20 = cells::cell(line, starts, ends, 20).len() != 0;
+    let dated24 = cells::cell(line, starts, ends, 24).len() != 0;
     PartiesFacts {
-        buyer: party_facts(ident::allowed7(), lei, cty, ven, c7, c11, entity, t),
-        buyer_for: party_facts(ident::allowed12(), lei, cty, ven, c12, c15, entity, t),
-        seller: party_facts(ident::allowed7(), lei, cty, ven, c16, c20, entity, t),
-        seller_for: party_facts(ident::allowed12(), lei, cty, ven, c21, c24, entity, t),
+        buyer: party_facts(party7, c7, dated11, date11, entity, asked7, t),
+        buyer_for: party_facts(party12, c12, dated15, date15, entity, asked12, t),
+        seller: party_facts(party16, c16, dated20, date20, entity, asked16, t),
+        seller_for: party_facts(party21, c21, dated24, date24, entity, asked21, t),
     }
 }

@@ -1,11 +1,12 @@
 // Days and moments.
 ghost use mathlib.Core.Path.{_≡_};
 ghost use Rattle.cells.specs.Split.{Tabled};
-ghost use Rattle.facts.specs.Words.{momentIn, momentOf, dayIn, dayOf, isLate, isPast, notBefore, tooOld};
-ghost use Rattle.facts.specs.Facts.{timeOf};
+ghost use Rattle.facts.specs.Words.{momentIn, dayIn, notBefore, tooOld};
+ghost use Rattle.facts.specs.Facts.{timeFrom};
 use calendar::Date;
 use calendar::Moment;
 use calendar::When;
+use forms::Read;
 
 pub struct TimeFacts {
     // 280 and 281
@@ -16,7 +17,8 @@ pub struct TimeFacts {
     pub past55: bool,
 }
 
-fn moment_in(when: When) -> Moment
+// The moment of cell 28.
+pub fn moment_in(when: When) -> Moment
     ensures { λ r. ⌜ r ≡ momentIn when ⌝ }
 {
     match when {
@@ -25,14 +27,7 @@ fn moment_in(when: When) -> Moment
     }
 }
 
-// The moment of cell 28.
-pub fn moment_of(s: &[u8]) -> Moment
-    ensures { λ r. ⌜ r ≡ momentOf (now (s .entry)) ⌝ }
-{
-    moment_in(calendar::parse_moment(s))
-}
-
-fn day_in(date: Date) -> u32
+pub fn day_in(date: Date) -> u32
     ensures { λ r. ⌜ r ≡ dayIn date ⌝ }
 {
     match date {
@@ -41,23 +36,13 @@ fn day_in(date: Date) -> u32
     }
 }
 
-pub fn day_of(s: &[u8]) -> u32
-    ensures { λ r. ⌜ r ≡ dayOf (now (s .entry)) ⌝ }
+// T, the day of cell 28.
+pub fn trade_day(read: Read) -> u32
+    ensures { λ r. ⌜ r ≡ momentIn (read .moment) .day ⌝ }
 {
-    day_in(calendar::parse_date(s))
-}
-
-// The date is present and after the day; present and before it.
-pub fn is_late(date: &[u8], day: u32) -> bool
-    ensures { λ r. ⌜ r ≡ isLate (now (date .entry)) day ⌝ }
-{
-    (date.len() != 0) & (day < day_of(date))
-}
-
-fn is_past(date: &[u8], day: u32) -> bool
-    ensures { λ r. ⌜ r ≡ isPast (now (date .entry)) day ⌝ }
-{
-    (date.len() != 0) & (day_of(date) < day)
+    let when = read.moment;
+    let moment = moment_in(when);
+    moment.day
 }
 
 fn not_before(moment: Moment, day: u32, micro: u64) -> bool
@@ -73,23 +58,29 @@ fn too_old(t: u32, s: u32) -> bool
     (t < 20180103) | (calendar::day_number(t) as u64 + 1826 < calendar::day_number(s) as u64)
 }
 
-// The moment of cell 28 and cells 54 and 55, against the submission moment.
+// The moment and the days of cells 54 and 55, against the submission moment.
 pub fn time_facts<'a, 't>(
     line: &'a [u8],
     starts: &'t [usize; 65],
     ends: &'t [usize; 65],
-    moment: Moment,
+    read: Read,
     day: u32,
     micro: u64,
 ) -> TimeFacts
     requires { ⌜ Tabled (now line) (now starts) (now ends) ⌝ }
-    ensures { λ r. ⌜ r ≡ timeOf (now (line .entry)) moment day micro ⌝ }
+    ensures { λ r. ⌜ r ≡ timeFrom (now (line .entry)) read day micro ⌝ }
 {
+    let when = read.moment;
+    let moment = moment_in(when);
     let t = moment.day;
+    let date54 = read.date54;
+    let date55 = read.date55;
+    let dated54 = cells::cell(line, starts, ends, 54).len() != 0;
+    let dated55 = cells::cell(line, starts, ends, 55).len() != 0;
     TimeFacts {
         not_before: not_before(moment, day, micro),
         too_old: too_old(t, day),
-        past54: is_past(cells::cell(line, starts, ends, 54), t),
-        past55: is_past(cells::cell(line, starts, ends, 55), t),
+        past54: dated54 & (day_in(date54) < t),
+        past55: dated55 & (day_in(date55) < t),
     }
 }

@@ -1,10 +1,16 @@
 // The venue, the instrument, and what the cells hold.
 ghost use mathlib.Core.Path.{_≡_};
 ghost use Rattle.cells.specs.Split.{Tabled};
-ghost use Rattle.facts.specs.Words.{heldAtAll, heldWord, heldQuantity, heldPrice, heldSwap};
+ghost use Rattle.forms.specs.Read.{readOf};
+ghost use Rattle.facts.specs.Words.{heldAtAll, heldWord, heldSwap};
 ghost use Rattle.facts.specs.Rules.{holdings};
-ghost use Rattle.facts.specs.Facts.{tradeOf};
+ghost use Rattle.facts.specs.Facts.{quantityHeld, priceHeld, tradeFrom};
 use crate::parties::is_off;
+use amount::Price;
+use amount::Quantity;
+use forms::Read;
+use lists::InstrumentRows;
+use lists::VenueRows;
 
 pub struct TradeFacts {
     // 030, 360, 361, 362, 370 and 372
@@ -19,23 +25,20 @@ pub struct TradeFacts {
     pub bond_without_net: bool,
 }
 
-// The cells of a trade that the venue's and the instrument's rules read: 3, 25, 36, 37 and 41, with what the others hold: 331 is units (2) in 30 and
-// percent (4) in 33, 351 a blank (1) in 35.
+// The cells of a trade that the venue's and the instrument's rules read: 3, 25, 36 and 37, with what the lists say of 36 and 41 and what the others
+// hold: 331 is units (2) in 30 and percent (4) in 33, 351 a blank (1) in 35.
 pub fn trade_facts<'a, 't>(
     line: &'a [u8],
     starts: &'t [usize; 65],
     ends: &'t [usize; 65],
-    ven: &[u8],
-    ins: &[u8],
+    venue: VenueRows,
+    rows: InstrumentRows,
     held: &[u8; 66],
-    t: u32,
 ) -> TradeFacts
     requires { ⌜ Tabled (now line) (now starts) (now ends) ⌝ }
-    ensures { λ r. ⌜ r ≡ tradeOf (now (line .entry)) (now (ven .entry)) (now (ins .entry)) (now (held .entry)) t ⌝ }
+    ensures { λ r. ⌜ r ≡ tradeFrom (now (line .entry)) venue rows (now (held .entry)) ⌝ }
 {
     let c36 = cells::cell(line, starts, ends, 36);
-    let venue = lists::venue_rows(ven, c36, t);
-    let rows = lists::instrument_rows(ins, cells::cell(line, starts, ends, 41), t);
     let off = is_off(c36);
     let coded = cells::cell(line, starts, ends, 3).len() != 0;
     let branch = cells::cell(line, starts, ends, 37).len() != 0;
@@ -79,22 +82,22 @@ fn held_word(s: &[u8], first: &[u8], second: &[u8], third: &[u8]) -> u8
     0
 }
 
-fn held_quantity(s: &[u8]) -> u8
-    ensures { λ r. ⌜ r ≡ heldQuantity (now (s .entry)) ⌝ }
+fn held_quantity(s: &[u8], quantity: Quantity) -> u8
+    ensures { λ r. ⌜ r ≡ quantityHeld (now (s .entry)) quantity ⌝ }
 {
     if s.len() == 0 {
         return 1;
     }
-    amount::quantity_kind(amount::parse_quantity(s))
+    amount::quantity_kind(quantity)
 }
 
-fn held_price(s: &[u8]) -> u8
-    ensures { λ r. ⌜ r ≡ heldPrice (now (s .entry)) ⌝ }
+fn held_price(s: &[u8], price: Price) -> u8
+    ensures { λ r. ⌜ r ≡ priceHeld (now (s .entry)) price ⌝ }
 {
     if s.len() == 0 {
         return 1;
     }
-    amount::price_kind(amount::parse_price(s))
+    amount::price_kind(price)
 }
 
 fn held_swap(s: &[u8]) -> u8
@@ -110,13 +113,20 @@ fn held_swap(s: &[u8]) -> u8
 }
 
 // What each cell holds that the rules by CFI ask for, by cell number.
-pub fn holdings<'a, 't>(line: &'a [u8], starts: &'t [usize; 65], ends: &'t [usize; 65]) -> [u8; 66]
-    requires { ⌜ Tabled (now line) (now starts) (now ends) ⌝ }
+pub fn holdings<'a, 't>(
+    line: &'a [u8],
+    starts: &'t [usize; 65],
+    ends: &'t [usize; 65],
+    read: Read,
+) -> [u8; 66]
+    requires { ⌜ Tabled (now line) (now starts) (now ends) × (read ≡ readOf (now line)) ⌝ }
     ensures { λ r. ⌜ r ≡ holdings (now (line .entry)) ⌝ }
 {
+    let quantity = read.quantity;
+    let price = read.price;
     let mut held = [0; 66];
-    held[30] = held_quantity(cells::cell(line, starts, ends, 30));
-    held[33] = held_price(cells::cell(line, starts, ends, 33));
+    held[30] = held_quantity(cells::cell(line, starts, ends, 30), quantity);
+    held[33] = held_price(cells::cell(line, starts, ends, 33), price);
     held[35] = held_at_all(cells::cell(line, starts, ends, 35));
     held[38] = held_at_all(cells::cell(line, starts, ends, 38));
     held[47] = held_swap(cells::cell(line, starts, ends, 47));

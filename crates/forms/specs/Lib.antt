@@ -2,3 +2,4 @@
 pub mod Forms
 pub mod Needs
 pub mod Findings
+pub mod Read

@@ -1,12 +1,15 @@
 // The findings 1001 to 1065 of a line.
 ghost use mathlib.Core.Path.{_≡_};
 ghost use Rattle.cells.specs.Split.{Tabled};
-ghost use Rattle.forms.specs.Findings.{statusOf, found, formFindings};
-use crate::meanings::holds;
-use crate::tables::Form;
-use crate::tables::cxl_needs;
-use crate::tables::forms_of_cells;
-use crate::tables::new_needs;
+ghost use mathlib.Core.Bool.{false};
+ghost use Rattle.text.specs.Word.{same};
+ghost use Rattle.cells.specs.Cells.{cell};
+ghost use Rattle.forms.specs.Forms.{statusWord};
+ghost use Rattle.forms.specs.Findings.{statusOf, formFindings};
+use crate::meanings::is_status;
+use crate::new_cells::new_findings;
+use crate::read::read_cells;
+use text::Class;
 
 // What cell 1 says of a line.
 pub enum Status {
@@ -29,26 +32,42 @@ pub fn status_of(s: &[u8]) -> Status
     Status::Neither
 }
 
-// What is found of a cell: whether it is the first, whether NEW and CXL need it, its form and its bytes. Of a CXL only
-// the cells that it needs are read.
-fn is_found(status: Status, first: bool, new: bool, cxl: bool, form: Form, s: &[u8]) -> bool
-    ensures { λ r. ⌜ r ≡ found status first new cxl form (now (s .entry)) ⌝ }
+// Of a CXL only the cells that it needs are read: 1, 2, 4 and 6.
+fn cancellation_findings<'a, 't>(
+    line: &'a [u8],
+    starts: &'t [usize; 65],
+    ends: &'t [usize; 65],
+) -> [bool; 65]
+    requires { ⌜ Tabled (now line) (now starts) (now ends) × (statusOf (cell (now line) 1) ≡ Status.Cancellation) ⌝ }
+    ensures { λ r. ⌜ r ≡ formFindings (now (line .entry)) ⌝ }
 {
-    match status {
-        Status::New => {
-            if s.len() == 0 {
-                return new;
-            }
-            !holds(s, form)
-        }
-        Status::Cancellation => {
-            if cxl {
-                return (s.len() == 0) | !holds(s, form);
-            }
-            false
-        }
-        Status::Neither => first,
+    let c1 = cells::cell(line, starts, ends, 1);
+    let c2 = cells::cell(line, starts, ends, 2);
+    let c4 = cells::cell(line, starts, ends, 4);
+    let c6 = cells::cell(line, starts, ends, 6);
+    let mut flags = [false; 65];
+    flags[0] = (c1.len() == 0) | !is_status(c1);
+    flags[1] = (c2.len() == 0) | !text::run_of(c2, Class::CapitalDigit, 1, 52);
+    flags[3] = (c4.len() == 0) | !ident::lei_shaped(c4);
+    flags[5] = (c6.len() == 0) | !ident::lei_shaped(c6);
+    flags
+}
+
+// Of a line that is not NEW. Where it is not CXL either, the one finding is 1001.
+pub fn other_findings<'a, 't>(
+    line: &'a [u8],
+    starts: &'t [usize; 65],
+    ends: &'t [usize; 65],
+) -> [bool; 65]
+    requires { ⌜ Tabled (now line) (now starts) (now ends) × (same (statusWord Status.New) (cell (now line) 1) ≡ false) ⌝ }
+    ensures { λ r. ⌜ r ≡ formFindings (now (line .entry)) ⌝ }
+{
+    if text::same(cells::cell(line, starts, ends, 1), b"CXL") {
+        return cancellation_findings(line, starts, ends);
     }
+    let mut flags = [false; 65];
+    flags[0] = true;
+    flags
 }
 
 // The 65 flags of a line: flag f - 1 is finding 1000 + f.
@@ -60,17 +79,8 @@ pub fn form_findings<'a, 't>(
     requires { ⌜ Tabled (now line) (now starts) (now ends) ⌝ }
     ensures { λ r. ⌜ r ≡ formFindings (now (line .entry)) ⌝ }
 {
-    let status = status_of(cells::cell(line, starts, ends, 1));
-    let forms = forms_of_cells();
-    let new = new_needs();
-    let cxl = cxl_needs();
-    let mut flags = [false; 65];
-    let mut i = 0;
-    while i < 65 {
-        let form = forms[i];
-        let s = cells::cell(line, starts, ends, i + 1);
-        flags[i] = is_found(status, i == 0, new[i] == b'1', cxl[i] == b'1', form, s);
-        i += 1;
+    if text::same(cells::cell(line, starts, ends, 1), b"NEW") {
+        return new_findings(line, starts, ends, read_cells(line, starts, ends));
     }
-    flags
+    other_findings(line, starts, ends)
 }

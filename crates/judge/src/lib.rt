@@ -1,16 +1,20 @@
 // One line judged: refused by number, or answered with its findings, and the register written where there are none.
 ghost use mathlib.Core.Path.{_≡_};
 ghost use mathlib.Core.Bool.{cond};
-ghost use mathlib.Core.List.{[]};
+ghost use mathlib.Core.List.{List, [], _++_};
+ghost use Prim.Native.Nat.{ℕ};
 ghost use lib.ListN.{length};
 ghost use Rattle.text.specs.FirstFrom.{firstFrom};
 ghost use Rattle.cells.specs.Split.{Tabled};
 ghost use Rattle.register.specs.Written.{setLive, setCancelled};
+ghost use Rattle.forms.specs.Findings.{formFindings};
 ghost use Rattle.facts.specs.Call.{call};
+ghost use Rattle.facts.specs.Rules.{pairStands, flags};
 ghost use Rattle.judge.specs.Refusal.{early};
 ghost use Rattle.judge.specs.Outcome.{pairOf, outcome, Judged};
 use lists::Mark;
 use register::Found;
+use register::Standing;
 use verdict::CODE_COUNT;
 use verdict::Verdict;
 
@@ -77,6 +81,32 @@ fn settle(register: &mut [u8], new: bool, found: Found, pair: &[u8; 73])
     }
 }
 
+// The flags of a line: of one that is NEW all is read and asked, of another its submitting entity only.
+fn flags_of<'a, 't>(
+    line: &'a [u8],
+    starts: &'t [usize; 65],
+    ends: &'t [usize; 65],
+    lei: &[u8],
+    cty: &[u8],
+    ccy: &[u8],
+    ven: &[u8],
+    ins: &[u8],
+    standing: Standing,
+    day: u32,
+    micro: u64,
+) -> [bool; CODE_COUNT]
+    requires { ⌜ Tabled (now line) (now starts) (now ends) ⌝ }
+    ensures { λ r. ⌜ ((register : List ℕ) → standing ≡ pairStands register (now (line .entry)) → r ≡ flags (call (now (line .entry)) (now (lei .entry)) (now (cty .entry)) (now (ccy .entry)) (now (ven .entry)) (now (ins .entry)) register day micro) ++ formFindings (now (line .entry))) ⌝ }
+{
+    if text::same(cells::cell(line, starts, ends, 1), b"NEW") {
+        let read = forms::read_cells(line, starts, ends);
+        let asked = asked::ask(line, starts, ends, read, lei, cty, ccy, ven, ins, day);
+        return rules::when_new(line, starts, ends, read, asked, standing, day, micro);
+    }
+    let submitting = asked::lei_fit(lei, cells::cell(line, starts, ends, 6), day);
+    rules::unless_new(line, starts, ends, submitting, standing)
+}
+
 pub fn judge(
     line: &[u8],
     lei: &[u8],
@@ -113,7 +143,7 @@ pub fn judge(
     let pair = pair_of(line, &table.starts, &table.ends);
     let found = register::find(register, &pair);
     let standing = register::standing_at(register, found);
-    let flags = rules::findings_of(
+    let flags = flags_of(
         line,
         &table.starts,
         &table.ends,

@@ -5,4 +5,5 @@ mod early;
 mod later;
 mod lines;
 
-pub use lines::findings_of;
+pub use lines::unless_new;
+pub use lines::when_new;

@@ -33,8 +33,8 @@ returns-2 c = ten-way (C (c .before .before .before .before .before .before .bef
 pair-of-requires : tie.Need-pair-of-requires
 pair-of-requires c κs = split-whole (c .before .before .before .before .before .before .before .before .before .before .before .before .before .before .before .before .args .line .now) (c .before .before .before .before .split .result) (c .before .before .before .before .split .ensures) (not-false _ (c .before .before .before .if2 .left))
 
-findings-of-requires : tie.Need-findings-of-requires
-findings-of-requires c κs = split-whole (c .before .before .before .before .before .before .before .before .before .before .before .before .before .before .before .before .before .before .before .before .before .before .before .before .before .args .line .now) (c .before .before .before .before .before .before .before .before .before .before .before .before .before .split .result) (c .before .before .before .before .before .before .before .before .before .before .before .before .before .split .ensures) (not-false _ (c .before .before .before .before .before .before .before .before .before .before .before .before .if2 .left))
+flags-of-requires : tie.Need-flags-of-requires
+flags-of-requires c κs = split-whole (c .before .before .before .before .before .before .before .before .before .before .before .before .before .before .before .before .before .before .before .before .before .before .before .before .before .args .line .now) (c .before .before .before .before .before .before .before .before .before .before .before .before .before .split .result) (c .before .before .before .before .before .before .before .before .before .before .before .before .before .split .ensures) (not-false _ (c .before .before .before .before .before .before .before .before .before .before .before .before .if2 .left))
 
 returns-3 : tie.Need-returns-3
 unfolding pairStands allFlags
@@ -45,7 +45,7 @@ returns-3 c =
     let pair = (c .before .before .before .before .before .before .before .before .before .before .before .before .before .before .before .before .before .before .pair-of) .ensures in
     let found : (c .before .before .before .before .before .before .before .before .before .before .before .before .before .before .before .find) .result ≡ firstRow 1 0 R (pairOf l) = c .before .before .before .before .before .before .before .before .before .before .before .before .before .before .before .find .ensures ∙ (λ j. firstRow 1 0 R (pair j)) in
     let stands : (c .before .before .before .before .before .before .before .before .before .before .before .before .before .standing-at) .result ≡ pairStands R l = c .before .before .before .before .before .before .before .before .before .before .before .before .before .standing-at .ensures ∙ (λ j. standingAt 1 0 R (found j)) ∙ standing-found 1 0 R (pairOf l) in
-    let flags : (c .before .before .before .before .before .before .before .before .before .findings-of) .result ≡ allFlags (C (c .before .before .before .before .before .before .before .before .before .before .before .before .before .before .before .before .before .before .before .before .before .before .before .before .before .before .before .before .before .before .before .before .before .before .before)) = (c .before .before .before .before .before .before .before .before .before .findings-of) .ensures R stands in
+    let flags : (c .before .before .before .before .before .before .before .before .before .flags-of) .result ≡ allFlags (C (c .before .before .before .before .before .before .before .before .before .before .before .before .before .before .before .before .before .before .before .before .before .before .before .before .before .before .before .before .before .before .before .before .before .before .before)) = (c .before .before .before .before .before .before .before .before .before .flags-of) .ensures R stands in
     found-way (C (c .before .before .before .before .before .before .before .before .before .before .before .before .before .before .before .before .before .before .before .before .before .before .before .before .before .before .before .before .before .before .before .before .before .before .before)) (c .before .before .before .before .before .before .before .before .before .before .before .before .before .before .before .before .before .before .before .before .before .before .before .before .before .before .before .before .before .before .before .before .before .before .before .args .findings .now) (c .before .before .before .before .before .before .before .before .before .before .before .before .before .before .before .before .before .before .before .before .before .before .before .before .before .early-refusal .ensures) (c .before .before .before .before .before .before .before .before .before .before .before .before .before .before .before .before .before .before .before .before .before .before .before .before .if1 .left) (tabled .count) flags (c .before .before .before .before .before .before .before .judged .ensures) (c .before .before .before .before .before .if3 .taken) (c .before .before .list .ensures)
 
 cell-requires : tie.Need-cell-requires
@@ -60,7 +60,7 @@ returns-4 c =
     let pair = (c .before .before .before .before .before .before .before .before .before .before .before .before .before .before .before .before .before .before .before .before .before .before .before .before .pair-of) .ensures in
     let found : (c .before .before .before .before .before .before .before .before .before .before .before .before .before .before .before .before .before .before .before .before .before .find) .result ≡ firstRow 1 0 R (pairOf l) = c .before .before .before .before .before .before .before .before .before .before .before .before .before .before .before .before .before .before .before .before .before .find .ensures ∙ (λ j. firstRow 1 0 R (pair j)) in
     let stands : (c .before .before .before .before .before .before .before .before .before .before .before .before .before .before .before .before .before .before .before .standing-at) .result ≡ pairStands R l = c .before .before .before .before .before .before .before .before .before .before .before .before .before .before .before .before .before .before .before .standing-at .ensures ∙ (λ j. standingAt 1 0 R (found j)) ∙ standing-found 1 0 R (pairOf l) in
-    let flags : (c .before .before .before .before .before .before .before .before .before .before .before .before .before .before .before .findings-of) .result ≡ allFlags (C (c .before .before .before .before .before .before .before .before .before .before .before .before .before .before .before .before .before .before .before .before .before .before .before .before .before .before .before .before .before .before .before .before .before .before .before .before .before .before .before .before .before)) = (c .before .before .before .before .before .before .before .before .before .before .before .before .before .before .before .findings-of) .ensures R stands in
+    let flags : (c .before .before .before .before .before .before .before .before .before .before .before .before .before .before .before .flags-of) .result ≡ allFlags (C (c .before .before .before .before .before .before .before .before .before .before .before .before .before .before .before .before .before .before .before .before .before .before .before .before .before .before .before .before .before .before .before .before .before .before .before .before .before .before .before .before .before)) = (c .before .before .before .before .before .before .before .before .before .before .before .before .before .before .before .flags-of) .ensures R stands in
     let new = c .before .before .before .before .before .same .ensures ∙ (λ j. same (ascii "NEW") ((c .before .before .before .before .before .before .before .cell .ensures) j)) in
     let absent = c .before .before .before .before .is-absent .ensures ∙ ap isAbsent stands in
     full-way (C (c .before .before .before .before .before .before .before .before .before .before .before .before .before .before .before .before .before .before .before .before .before .before .before .before .before .before .before .before .before .before .before .before .before .before .before .before .before .before .before .before .before)) (c .before .before .before .before .before .before .before .before .before .before .before .before .before .before .before .before .before .before .before .before .before .before .before .before .before .before .before .before .before .before .before .before .before .before .before .before .before .before .before .before .before .args .findings .now) (c .before .before .before .before .before .before .before .before .before .before .before .before .before .before .before .before .before .before .before .before .before .before .before .before .before .before .before .before .before .before .before .early-refusal .ensures) (c .before .before .before .before .before .before .before .before .before .before .before .before .before .before .before .before .before .before .before .before .before .before .before .before .before .before .before .before .before .before .if1 .left) (tabled .count) flags (c .before .before .before .before .before .before .before .before .before .before .before .before .before .judged .ensures) (c .before .before .before .before .before .before .before .before .before .before .before .if3 .left) new absent (c .before .before .full .ensures) (c .before .if4 .taken) (c .refused3 .ensures)
@@ -74,7 +74,7 @@ returns-5 c =
     let pair = (c .before .before .before .before .before .before .before .before .before .before .before .before .before .before .before .before .before .before .before .before .before .before .before .before .before .before .before .before .pair-of) .ensures in
     let found : (c .before .before .before .before .before .before .before .before .before .before .before .before .before .before .before .before .before .before .before .before .before .before .before .before .before .find) .result ≡ firstRow 1 0 R (pairOf l) = c .before .before .before .before .before .before .before .before .before .before .before .before .before .before .before .before .before .before .before .before .before .before .before .before .before .find .ensures ∙ (λ j. firstRow 1 0 R (pair j)) in
     let stands : (c .before .before .before .before .before .before .before .before .before .before .before .before .before .before .before .before .before .before .before .before .before .before .before .standing-at) .result ≡ pairStands R l = c .before .before .before .before .before .before .before .before .before .before .before .before .before .before .before .before .before .before .before .before .before .before .before .standing-at .ensures ∙ (λ j. standingAt 1 0 R (found j)) ∙ standing-found 1 0 R (pairOf l) in
-    let flags : (c .before .before .before .before .before .before .before .before .before .before .before .before .before .before .before .before .before .before .before .findings-of) .result ≡ allFlags (C (c .before .before .before .before .before .before .before .before .before .before .before .before .before .before .before .before .before .before .before .before .before .before .before .before .before .before .before .before .before .before .before .before .before .before .before .before .before .before .before .before .before .before .before .before .before)) = (c .before .before .before .before .before .before .before .before .before .before .before .before .before .before .before .before .before .before .before .findings-of) .ensures R stands in
+    let flags : (c .before .before .before .before .before .before .before .before .before .before .before .before .before .before .before .before .before .before .before .flags-of) .result ≡ allFlags (C (c .before .before .before .before .before .before .before .before .before .before .before .before .before .before .before .before .before .before .before .before .before .before .before .before .before .before .before .before .before .before .before .before .before .before .before .before .before .before .before .before .before .before .before .before .before)) = (c .before .before .before .before .before .before .before .before .before .before .before .before .before .before .before .before .before .before .before .flags-of) .ensures R stands in
     let new = c .before .before .before .before .before .before .before .before .before .same .ensures ∙ (λ j. same (ascii "NEW") ((c .before .before .before .before .before .before .before .before .before .before .before .cell .ensures) j)) in
     let absent = c .before .before .before .before .before .before .before .before .is-absent .ensures ∙ ap isAbsent stands in
     clean-way (C (c .before .before .before .before .before .before .before .before .before .before .before .before .before .before .before .before .before .before .before .before .before .before .before .before .before .before .before .before .before .before .before .before .before .before .before .before .before .before .before .before .before .before .before .before .before)) (c .before .before .before .before .before .before .before .before .before .before .before .before .before .before .before .before .before .before .before .before .before .before .before .before .before .before .before .before .before .before .before .before .before .before .before .before .before .before .before .before .before .before .before .before .before .args .findings .now) (c .before .before .before .before .before .before .before .before .before .before .before .before .before .before .before .before .before .before .before .before .before .before .before .before .before .before .before .before .before .before .before .before .before .before .before .early-refusal .ensures) (c .before .before .before .before .before .before .before .before .before .before .before .before .before .before .before .before .before .before .before .before .before .before .before .before .before .before .before .before .before .before .before .before .before .before .if1 .left) (tabled .count) flags (c .before .before .before .before .before .before .before .before .before .before .before .before .before .before .before .before .before .judged .ensures) (c .before .before .before .before .before .before .before .before .before .before .before .before .before .before .before .if3 .left) new absent (c .before .before .before .before .before .before .full .ensures) (c .before .before .before .before .before .if4 .left)
@@ -95,7 +95,7 @@ judge-spec =
     pair-of-requires
     (λ c κs. search needs)
     (λ c κs. search needs)
-    findings-of-requires
+    flags-of-requires
     (λ c κs. search needs)
     (λ c κs. search needs)
     (λ c. search needs)

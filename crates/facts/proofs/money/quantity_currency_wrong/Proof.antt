@@ -3,17 +3,16 @@ use Rattle.facts.proofs.money.quantity_currency_wrong.Tie as tie
 use mathlib.Core.Bool.{not, _&&_, _||_}
 use lib.Dec.{eqb}
 use lib.ListN.{length}
-use Rattle.facts.specs.Words.{quantityCurrencyWrong}
+use Rattle.facts.specs.Facts.{quantityCurrencyFrom}
 use borrow.Author.Needs.{needs}
 
 returns : tie.Need-returns
-unfolding quantityCurrencyWrong
-returns c = λ i. not (eqb (length (c .before .before .before .before .before .args .s .now)) 0) && ((c .before .is-no-money .ensures) i || not (((c .before .before .currency-rows .ensures) i) .current || ((c .before .before .currency-rows .ensures) i) .«pre_euro»))
+unfolding quantityCurrencyFrom
+returns c = λ i. not (eqb (length ((c .before .before .before .args) .s .now)) 0) && ((c .before .is-no-money) .ensures i || not ((c .before .before .before .args) .rows .current || (c .before .before .before .args) .rows .«pre_euro»))
 
 pub quantity-currency-wrong-spec : {M : Type 1} → statement M
 quantity-currency-wrong-spec =
     tie.close
     (tie.spec
-    (λ c κs. search needs)
     (λ c κs. search needs)
     returns)

@@ -3,13 +3,15 @@ use Rattle.rules.proofs.later.currencies_and_cfi.Tie as tie
 use mathlib.Core.Path.{_∙_, ap}
 use Rattle.cfi.specs.Rules.{cfiFindings}
 use Rattle.facts.specs.Rules.{rules5}
-use Rattle.facts.specs.Facts.{entityOf, partyFactsOf, partiesOf, timeOf, moneyOf, tradeOf, dealOf, factsOf}
+use Rattle.facts.specs.Words.{currencyWrong}
+use Rattle.facts.specs.Asked.{moneyAsked, askedOf}
+use Rattle.facts.specs.Facts.{currencyFrom, moneyFrom, tradeOf, factsOf}
 use Rattle.verdict.specs.Findings.{put}
 use Rattle.rules.proofs.ByStatus.{when-new}
 use borrow.Author.Needs.{needs}
 
 returns : tie.Need-returns
-unfolding factsOf entityOf partiesOf partyFactsOf timeOf moneyOf tradeOf dealOf cfiFindings
+unfolding factsOf askedOf tradeOf moneyAsked moneyFrom currencyFrom currencyWrong cfiFindings
 returns c = λ k n e. (c .place) .ensures ∙ ap (put ((c .before .before .before .before .before .before .before .before .before .args) .base) 48) (rw e (when-new k n rules5))
 
 pub currencies-and-cfi-spec : {M : Type 1} → statement M

@@ -3,16 +3,15 @@ use Rattle.rules.proofs.lines.unless_new.Tie as tie
 use mathlib.Core.Path.{_≡_, _∙_, refl, ap}
 use mathlib.Core.Bool.{Bool, false, not, _&&_}
 use mathlib.Core.List.{List, _∷_, map}
-use Prim.Native.Nat.{ℕ}
 use lib.ListN.{take, set, getD, replicate}
 use Rattle.text.specs.Ascii.{ascii}
 use Rattle.text.specs.Word.{same}
 use Rattle.forms.specs.Findings.{formFindings}
 use Rattle.forms.proofs.FindingLaws.{findings-count}
 use Rattle.facts.specs.Call.{call}
-use Rattle.facts.specs.declared.entities.LeiFit.{LeiFit}
-use Rattle.facts.specs.Words.{isAbsent, isCancelled, leiGood}
-use Rattle.facts.specs.Facts.{leiFit}
+use Rattle.facts.specs.declared.answers.LeiFit.{LeiFit}
+use Rattle.facts.specs.Words.{isAbsent, isCancelled}
+use Rattle.facts.specs.Asked.{leiFit}
 use Rattle.facts.specs.Rules.{isCxl, goodCells, flags}
 use Rattle.verdict.specs.Findings.{put}
 use Rattle.verdict.proofs.PlaceLaws.{Filled, filled-more, filled-all}
@@ -31,37 +30,36 @@ three cxl ok absent cancelled any =
 returns : tie.Need-returns
 unfolding goodCells leiFit
 returns c =
-    λ cty ccy ven ins register micro stands off.
-    let l = (c .before .before .before .before .before .before .before .before .before .before .before .before .before .args) .line .now in
-    let ff = (c .before .before .before .before .before .before .before .before .before .before .before .before .before .args) .forms .now in
-    let k = call l ((c .before .before .before .before .before .before .before .before .before .before .before .before .before .args) .lei .now) cty ccy ven ins register ((c .before .before .before .before .before .before .before .before .before .before .before .before .before .args) .day) micro in
-    let cxl : (c .before .before .before .before .before .before .before .before .same) .result ≡ isCxl l = (c .before .before .before .before .before .before .before .before .same) .ensures ∙ ap (same (ascii "CXL")) ((c .before .before .before .before .before .before .before .before .before .before .cell) .ensures) in
-    let ok : (c .before .before .before .before .before .before .before .good-cells) .result ≡ goodCells l = (c .before .before .before .before .before .before .before .good-cells) .ensures ∙ ap (λ (found : List Bool). false ∷ map not found) ((c .before .before .before .before .before .before .before .before .before .before .before .before .before .pre) .1) in
-    let absent = (c .before .before .before .before .before .before .is-absent) .ensures ∙ ap isAbsent stands in
-    let cancelled = (c .before .before .before .before .before .is-cancelled) .ensures ∙ ap isCancelled stands in
-    let any = ap (λ (f : LeiFit). f .any) ((c .before .before .before .lei-fit) .ensures) ∙ ap (λ (s : List ℕ). leiGood ((c .before .before .before .before .before .before .before .before .before .before .before .before .before .args) .lei .now) s ((c .before .before .before .before .before .before .before .before .before .before .before .before .before .args) .day)) ((c .before .before .before .before .cell2) .ensures) in
-    let found = three ((c .before .before .before .before .before .before .before .before .same) .result) ((c .before .before .before .before .before .before .before .good-cells) .result) ((c .before .before .before .before .before .before .is-absent) .result) ((c .before .before .before .before .before .is-cancelled) .result) ((c .before .before .before .lei-fit) .result .any) in
-    let rules : Filled 72 (flags k) found = record { long = refl; front = (λ i. take 72 (three (cxl i) (ok i) (absent i) (cancelled i) (any i))) ∙ not-new k off } in
-    filled-all (filled-more rules (formFindings l) 65 (findings-count l) (omega arith) ((c .place) .ensures ∙ ap (put found 72) ((c .before .before .before .before .before .before .before .before .before .before .before .before .before .pre) .1)))
+    λ lei cty ccy ven ins register day micro fit stands.
+    let l = (c .before .before .before .before .before .before .before .before .before .before .before .before .args) .line .now in
+    let k = call l lei cty ccy ven ins register day micro in
+    let cxl : (c .before .before .before .before .before .same) .result ≡ isCxl l = (c .before .before .before .before .before .same) .ensures ∙ ap (same (ascii "CXL")) ((c .before .before .before .before .before .before .before .cell) .ensures) in
+    let ok : (c .before .before .before .before .before .before .before .before .good-cells) .result ≡ goodCells l = (c .before .before .before .before .before .before .before .before .good-cells) .ensures ∙ ap (λ (found : List Bool). false ∷ map not found) ((c .before .before .before .before .before .before .before .before .before .before .other-findings) .ensures) in
+    let absent = (c .before .before .before .before .is-absent) .ensures ∙ ap isAbsent stands in
+    let cancelled = (c .before .before .before .is-cancelled) .ensures ∙ ap isCancelled stands in
+    let any = ap (λ (f : LeiFit). f .any) fit in
+    let found = three ((c .before .before .before .before .before .same) .result) ((c .before .before .before .before .before .before .before .before .good-cells) .result) ((c .before .before .before .before .is-absent) .result) ((c .before .before .before .is-cancelled) .result) ((c .before .before .before .before .before .before .before .before .before .before .before .before .args) .submitting .any) in
+    let rules : Filled 72 (flags k) found = record { long = refl; front = (λ i. take 72 (three (cxl i) (ok i) (absent i) (cancelled i) (any i))) ∙ not-new k ((c .before .before .before .before .before .before .before .before .before .before .before .before .pre) .1) } in
+    filled-all (filled-more rules (formFindings l) 65 (findings-count l) (omega arith) ((c .place) .ensures ∙ ap (put found 72) ((c .before .before .before .before .before .before .before .before .before .before .other-findings) .ensures)))
 
 pub unless-new-spec : {M : Type 1} → statement M
 unless-new-spec =
     tie.close
     (tie.spec
     (λ c κs. search needs)
-    (λ c. search needs)
     (λ c κs. search needs)
     (λ c κs. search needs)
-    (λ c. search needs)
     (λ c. search needs)
     (λ c κs. search needs)
     (λ c. search needs)
     (λ c. search needs)
+    (λ c κs. search needs)
+    (λ c. search needs)
+    (λ c. search needs)
     (λ c. search needs)
     (λ c κs. search needs)
     (λ c. search needs)
-    (λ c κs. search needs)
-    (λ c κs. search needs)
+    (λ c. search needs)
     (λ c. search needs)
     (λ c. search needs)
     (λ c κs. search needs)

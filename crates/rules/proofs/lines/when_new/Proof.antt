@@ -1,45 +1,32 @@
 use Rattle.rules.proofs.lines.when_new.Statement.{statement}
 use Rattle.rules.proofs.lines.when_new.Tie as tie
-use mathlib.Core.Path.{_∙_, refl, ap}
-use mathlib.Core.Bool.{false}
-use mathlib.Core.List.{[], map}
-use lib.ListN.{replicate}
-use Rattle.forms.specs.Findings.{formFindings}
-use Rattle.forms.proofs.FindingLaws.{findings-count}
+use mathlib.Core.Path.{_∙_}
+use Rattle.forms.proofs.FindingLaws.{new-status}
 use Rattle.facts.specs.Call.{call}
-use Rattle.facts.specs.Rules.{given, rules1, rules2, rules3, rules4, rules5, rules6, flags}
-use Rattle.verdict.specs.Findings.{put}
-use Rattle.verdict.proofs.PlaceLaws.{Filled, filled-none, filled-more, filled-all}
-use native.Mathlib.Omega.{arith}
+use Rattle.facts.specs.Facts.{factsFrom}
+use Rattle.facts.proofs.FromAsked.{facts-from}
 use borrow.Author.Needs.{needs}
 
+new-findings-requires : tie.Need-new-findings-requires
+new-findings-requires c κs = ((c .before .pre) .0, (c .before .pre) .1, new-status _ ((c .before .pre) .2))
+
+line-facts-requires : tie.Need-line-facts-requires
+line-facts-requires c κs = ((c .before .before .before .pre) .0, (c .before .new-findings) .ensures, (c .before .before .before .pre) .1)
+
 returns : tie.Need-returns
-unfolding flags
 returns c =
-    λ register stands new.
-    let a = (c .before .before .before .before .before .before .before .before .before .before .before .before .before .before .before .args) in
+    λ lei cty ccy ven ins register asked stands.
+    let a = (c .before .before .before .before .before .before .args) in
     let l = a .line .now in
-    let k = call l (a .lei .now) (a .cty .now) (a .ccy .now) (a .ven .now) (a .ins .now) register (a .day) (a .micro) in
-    let e = (c .before .before .before .before .before .before .before .before .line-facts) .ensures register stands in
-    let s0 : Filled 0 [] (replicate 137 false) = filled-none refl in
-    let s1 = filled-more s0 (map (given k) rules1) 12 refl (omega arith) ((c .before .before .before .before .before .before .before .pair-and-buyer) .ensures k new e) in
-    let s2 = filled-more s1 (map (given k) rules2) 12 refl (omega arith) ((c .before .before .before .before .before .before .deciders-and-seller) .ensures k new e) in
-    let s3 = filled-more s2 (map (given k) rules3) 12 refl (omega arith) ((c .before .before .before .before .before .seller-and-time) .ensures k new e) in
-    let s4 = filled-more s3 (map (given k) rules4) 12 refl (omega arith) ((c .before .before .before .before .price-and-venue) .ensures k new e) in
-    let s5 = filled-more s4 (map (given k) rules5) 12 refl (omega arith) ((c .before .before .before .currencies-and-cfi) .ensures k new e) in
-    let s6 = filled-more s5 (map (given k) rules6) 12 refl (omega arith) ((c .before .before .cfi-and-dates) .ensures k new e) in
-    filled-all (filled-more s6 (formFindings l) 65 (findings-count l) (omega arith) ((c .place) .ensures ∙ ap (put ((c .before .before .cfi-and-dates) .result) 72) ((c .before .before .before .before .before .before .before .before .before .before .before .before .before .before .before .pre) .1)))
+    let k = call l lei cty ccy ven ins register (a .day) (a .micro) in
+    let facts = (c .before .before .line-facts) .ensures ∙ (λ j. factsFrom l ((c .before .before .before .before .before .before .pre) .1 j) (asked j) (stands j) (a .day) (a .micro)) ∙ facts-from k in
+    (c .by-facts) .ensures k ((c .before .before .before .before .before .before .pre) .2) facts ((c .before .before .before .before .new-findings) .ensures)
 
 pub when-new-spec : {M : Type 1} → statement M
 when-new-spec =
     tie.close
     (tie.spec
-    (λ c κs. search needs)
-    (λ c κs. search needs)
-    (λ c κs. search needs)
-    (λ c κs. search needs)
-    (λ c κs. search needs)
-    (λ c κs. search needs)
-    (λ c κs. search needs)
+    new-findings-requires
+    line-facts-requires
     (λ c κs. search needs)
     returns)

@@ -1,0 +1,2 @@
+-- The answers of the step that asks the lists.
+mod Unique
