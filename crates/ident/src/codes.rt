@@ -4,17 +4,24 @@ ghost use Prim.Native.Nat.{_<_, _%_};
 ghost use Rattle.ident.specs.Codes.{leiShaped, leiRight, micShaped};
 ghost use Rattle.ident.specs.Written.{digitsOf, decimal, written};
 use crate::characters::value_of;
+use text::Class;
 
 pub fn lei_shaped(s: &[u8]) -> bool
     ensures { λ r. ⌜ r ≡ leiShaped (now (s .entry)) ⌝ }
 {
-    text::shaped(s, b"nnnnnnnnnnnnnnnnnndd")
+    if s.len() != 20 {
+        return false;
+    }
+    text::all_within(s, 0, 18, Class::CapitalDigit) & text::all_within(s, 18, 20, Class::Digit)
 }
 
 pub fn mic_shaped(s: &[u8]) -> bool
     ensures { λ r. ⌜ r ≡ micShaped (now (s .entry)) ⌝ }
 {
-    text::shaped(s, b"nnnn")
+    if s.len() != 4 {
+        return false;
+    }
+    text::all_within(s, 0, 4, Class::CapitalDigit)
 }
 
 // The remainder once a character's digits stand behind those that leave k.

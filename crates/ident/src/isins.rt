@@ -5,6 +5,7 @@ ghost use Rattle.ident.specs.Carried.{withDigit, withDigits};
 ghost use Rattle.ident.specs.Codes.{doubleAddDouble, isinShaped, isinRight};
 ghost use Rattle.ident.specs.Written.{digitsOf, writtenDigits};
 use crate::characters::value_of;
+use text::Class;
 
 // Read from the left it is open which digits will be doubled, so both sums are kept, by 10.
 struct Sums {
@@ -37,7 +38,12 @@ fn with_value(x: Sums, value: u32) -> Sums
 pub fn isin_shaped(s: &[u8]) -> bool
     ensures { λ r. ⌜ r ≡ isinShaped (now (s .entry)) ⌝ }
 {
-    text::shaped(s, b"uunnnnnnnnnd")
+    if s.len() != 12 {
+        return false;
+    }
+    text::all_within(s, 0, 2, Class::Capital)
+        & text::all_within(s, 2, 11, Class::CapitalDigit)
+        & text::all_within(s, 11, 12, Class::Digit)
 }
 
 // By 10, of the sum that the check takes: 0 where the check digit is right.

@@ -6,7 +6,15 @@ use text::Class;
 pub fn concat_shaped(s: &[u8]) -> bool
     ensures { λ r. ⌜ r ≡ concatShaped (now (s .entry)) ⌝ }
 {
-    text::shaped(s, b"uudddddddduhhhhuhhhh")
+    if s.len() != 20 {
+        return false;
+    }
+    text::all_within(s, 0, 2, Class::Capital)
+        & text::all_within(s, 2, 10, Class::Digit)
+        & text::all_within(s, 10, 11, Class::Capital)
+        & text::all_within(s, 11, 15, Class::CapitalHash)
+        & text::all_within(s, 15, 16, Class::Capital)
+        & text::all_within(s, 16, 20, Class::CapitalHash)
 }
 
 // The class of what follows the two letters.

@@ -3,6 +3,7 @@ pub mod Bools
 pub mod Lists
 pub mod ClassLaws
 pub mod WordLaws
+pub mod RunLaws
 pub mod NumberLaws
 pub mod FirstFrom
 pub mod Fill

@@ -4,6 +4,8 @@ use Rattle.text.proofs.classes.is_in.Kinds as is-in-kinds
 use Rattle.text.proofs.classes.is_in.Reads as is-in-reads
 use Rattle.text.proofs.classes.all_of.Kinds as all-of-kinds
 use Rattle.text.proofs.classes.all_of.Reads as all-of-reads
+use Rattle.text.proofs.classes.all_within.Kinds as all-within-kinds
+use Rattle.text.proofs.classes.all_within.Reads as all-within-reads
 use Rattle.text.proofs.classes.run_of.Kinds as run-of-kinds
 use Rattle.text.proofs.classes.run_of.Reads as run-of-reads
 use Rattle.text.proofs.parts.byte_at.Kinds as byte-at-kinds
@@ -44,6 +46,9 @@ is-in-determined κs a x y s t = same-both
 
 pub all-of-determined : Determined all-of-kinds.ps all-of-kinds.r all-of-reads.Post
 all-of-determined κs a x y s t = same-both
+
+pub all-within-determined : Determined all-within-kinds.ps all-within-kinds.r all-within-reads.Post
+all-within-determined κs a x y s t = same-both
 
 pub run-of-determined : Determined run-of-kinds.ps run-of-kinds.r run-of-reads.Post
 run-of-determined κs a x y s t = same-both

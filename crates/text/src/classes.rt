@@ -1,6 +1,9 @@
 // Classes of bytes, and runs of one class.
 ghost use mathlib.Core.Path.{_≡_};
+ghost use Prim.Native.Nat.{_-_};
+ghost use lib.ListN.{take, drop};
 ghost use Rattle.text.specs.Class.{inClass, allOf, runOf};
+use crate::parts::part;
 
 // The classes that the paper names for the bytes of a cell.
 pub enum Class {
@@ -49,17 +52,24 @@ pub fn is_in(b: u8, class: Class) -> bool
     }
 }
 
+// The loop goes on where a byte is of another class: without a way out it takes many bytes in one step.
 pub fn all_of(s: &[u8], class: Class) -> bool
     ensures { λ r. ⌜ r ≡ allOf class (now (s .entry)) ⌝ }
 {
+    let mut good = true;
     let mut i = 0;
     while i < s.len() {
-        if !is_in(s[i], class) {
-            return false;
-        }
+        good = good & is_in(s[i], class);
         i += 1;
     }
-    true
+    good
+}
+
+// What stands from `start` up to `end` is all of one class.
+pub fn all_within(s: &[u8], start: usize, end: usize, class: Class) -> bool
+    ensures { λ r. ⌜ r ≡ allOf class (take (end - start) (drop start (now (s .entry)))) ⌝ }
+{
+    all_of(part(s, start, end), class)
 }
 
 // From `least` to `most` bytes, all of one class.
@@ -67,5 +77,8 @@ pub fn run_of(s: &[u8], class: Class, least: usize, most: usize) -> bool
     ensures { λ r. ⌜ r ≡ runOf class least most (now (s .entry)) ⌝ }
 {
     let n = s.len();
-    (least <= n) & (n <= most) & all_of(s, class)
+    if !((least <= n) & (n <= most)) {
+        return false;
+    }
+    all_of(s, class)
 }

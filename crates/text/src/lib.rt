@@ -8,6 +8,7 @@ mod words;
 
 pub use classes::Class;
 pub use classes::all_of;
+pub use classes::all_within;
 pub use classes::is_in;
 pub use classes::run_of;
 pub use numbers::digit_of;
