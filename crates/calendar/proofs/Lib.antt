@@ -4,4 +4,7 @@ pub mod Elapsed
 pub mod Real
 pub mod Sums
 pub mod Digits
+pub mod PlaceLaws
+pub mod CellRuns
+pub mod MomentLaws
 mod Unique

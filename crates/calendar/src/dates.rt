@@ -1,9 +1,14 @@
 // The dates that cells hold.
 ghost use mathlib.Core.Path.{_≡_};
+ghost use mathlib.Core.Bool.{true};
 ghost use lib.ListN.{drop};
+ghost use Rattle.text.specs.Ascii.{ascii};
 ghost use Rattle.text.specs.Number.{twoDigits};
+ghost use Rattle.text.specs.Shape.{shape};
 ghost use Rattle.calendar.specs.Dates.{dayWritten, dateOf, isDate};
+ghost use Rattle.calendar.specs.Places.{digitsAt, pairAt, datePlaces};
 use crate::days::is_day;
+use text::Class;
 
 // A date cell: the day that it writes, or none.
 pub enum Date {
@@ -12,24 +17,40 @@ pub enum Date {
     Malformed,
 }
 
-// The two digits at a place.
+// The two digits at a place where there are digits.
 pub fn two_at(s: &[u8], at: usize) -> u32
+    requires { ⌜ pairAt at (now s) ≡ true ⌝ }
     ensures { λ r. ⌜ r ≡ twoDigits (drop at (now (s .entry))) ⌝ }
 {
-    text::two_digits(text::rest(s, at))
+    s[at] as u32 * 10 + s[at + 1] as u32 - 528
 }
 
 // The day that the digits of yyyy-mm-dd write.
 pub fn day_written(s: &[u8]) -> u32
+    requires { ⌜ digitsAt datePlaces (now s) ≡ true ⌝ }
     ensures { λ r. ⌜ r ≡ dayWritten (now (s .entry)) ⌝ }
 {
-    text::four_digits(s) * 10000 + two_at(s, 5) * 100 + two_at(s, 8)
+    (two_at(s, 0) * 100 + two_at(s, 2)) * 10000 + two_at(s, 5) * 100 + two_at(s, 8)
+}
+
+// yyyy-mm-dd, of a real day or not.
+fn is_written(s: &[u8]) -> bool
+    ensures { λ r. ⌜ r ≡ shape (ascii "dddd-dd-dd") (now (s .entry)) ⌝ }
+{
+    if s.len() != 10 {
+        return false;
+    }
+    text::all_within(s, 0, 4, Class::Digit)
+        & (s[4] == b'-')
+        & text::all_within(s, 5, 7, Class::Digit)
+        & (s[7] == b'-')
+        & text::all_within(s, 8, 10, Class::Digit)
 }
 
 pub fn parse_date(s: &[u8]) -> Date
     ensures { λ r. ⌜ r ≡ dateOf (now (s .entry)) ⌝ }
 {
-    if !text::shaped(s, b"dddd-dd-dd") {
+    if !is_written(s) {
         return Date::Malformed;
     }
     let day = day_written(s);

@@ -46,7 +46,7 @@ in-runs good at (r ∷ rs) s h =
     ∙ in-runs (good && r .test s at) (at + r .width) rs s (omega arith)
 
 -- n letters that stand for a class
-abbrev times : ℕ → ℕ → List ℕ → List ℕ
+abbrev pub times : ℕ → ℕ → List ℕ → List ℕ
 times zero letter pattern = pattern
 times (suc n) letter pattern = letter ∷ times n letter pattern
 
