@@ -1,13 +1,13 @@
 -- Decimals: where the point stands, how many digits there can be, and that their number fits.
-use mathlib.Core.Path.{_≡_, _∙_}
+use mathlib.Core.Path.{_≡_, _∙_, sym}
 use mathlib.Core.Bool.{Bool, true, false, cond, _&&_, _||_}
-use mathlib.Core.List.{List, [], _∷_}
+use mathlib.Core.List.{List, [], _∷_, _++_}
 use mathlib.Core.Logic.{⊎-elim}
 use Prim.Native.Nat.{ℕ, suc, _+_, _-_, _^_, _≤_, _<_}
 use native.Mathlib.Omega.{arith}
 use borrow.Author.Tests.{eq-eqb, ne-eqb, eqb-true, leb-true}
 use lib.Dec.{leb, eqb, lit<}
-use lib.ListN.{length, getD, drop, length-append, length-take, length-drop, drop-of-length-le}
+use lib.ListN.{length, getD, take, drop, length-append, length-take, length-drop, drop-of-length-le}
 use Rattle.text.specs.declared.classes.Class.the-variants.{Digit}
 use Rattle.text.specs.Class.{is, runOf}
 use Rattle.text.specs.Number.{numberOf}
@@ -62,6 +62,41 @@ whole-length s = length-take (pointAt s) s ∙ omega (arith, point-within s)
 pub digits-length : (s : List ℕ) → length (digitsOf s) ≡ pointAt s + (length s - (pointAt s + 1))
 unfolding digitsOf decimals
 digits-length s = length-append (whole s) (decimals s) ∙ rw (whole-length s, length-drop)
+
+-- what stands before the point and behind it, by the point's place
+module _ (s : List ℕ) {p : ℕ} (here : p ≡ pointAt s) where
+  pub point-room : p ≤ length s
+  point-room = rw here (point-within s)
+
+  pub whole-is : {w : List ℕ} → w ≡ take p s → w ≡ whole s
+  unfolding whole
+  whole-is e = e ∙ rw here
+
+  pub decimals-are : {d : List ℕ} → d ≡ drop (p + 1) s → d ≡ decimals s
+  unfolding decimals
+  decimals-are e = e ∙ rw here
+
+  pub digits-are : {w d : List ℕ} → w ≡ take p s → d ≡ drop (p + 1) s → (w ++ d) ≡ digitsOf s
+  unfolding digitsOf
+  digits-are e f = λ i. whole-is e i ++ decimals-are f i
+
+  module _ (n f m : ℕ) {w : List ℕ} {r : Bool} (front : r ≡ runOf Digit 1 n w) (at : w ≡ take p s) where
+    pub no-whole : r ≡ false → false ≡ isDecimal n f m s
+    unfolding isDecimal
+    no-whole e =
+        let whole-wrong : runOf Digit 1 n (whole s) ≡ false = rw (whole-is at) at (sym front ∙ e) in
+        rw whole-wrong
+
+    whole-right : r ≡ true → runOf Digit 1 n (whole s) ≡ true
+    whole-right e = rw (whole-is at) at (sym front ∙ e)
+
+    pub no-point : r ≡ true → p ≡ length s → true ≡ isDecimal n f m s
+    unfolding isDecimal
+    no-point e all = rw (whole-right e, whole-length s, sym here, eq-eqb p (length s) all)
+
+    pub pointed : r ≡ true → (p ≡ length s → ⊥) → {d : List ℕ} {q : Bool} → q ≡ runOf Digit 0 f d → d ≡ drop (p + 1) s → (leb (length s) m && q) ≡ isDecimal n f m s
+    unfolding isDecimal
+    pointed e not-all g back = rw (whole-right e, whole-length s, sym here, ne-eqb p (length s) not-all, g, decimals-are back)
 
 -- D(n, f, m) has at most n digits without a point, and fewer than m with one
 pub few-digits : (n f m : ℕ) (s : List ℕ) → isDecimal n f m s ≡ true → n ≤ 18 → m ≤ 19 → length (digitsOf s) ≤ 18

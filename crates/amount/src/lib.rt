@@ -5,7 +5,7 @@ ghost use mathlib.Core.Path.{_≡_};
 ghost use Prim.Native.Nat.{_≤_};
 ghost use lib.ListN.{length};
 ghost use Rattle.text.specs.Number.{numberOf};
-ghost use Rattle.amount.specs.Decimal.{pointAt, whole, decimals, digitsOf, isDecimal, valueOf, tagged};
+ghost use Rattle.amount.specs.Decimal.{pointAt, digitsOf, isDecimal, valueOf, tagged};
 ghost use Rattle.amount.specs.Signed.{behindSign, signedValueOf, signedOf, signedKind};
 ghost use Rattle.amount.specs.Price.{moneyOf, priceOf, priceKind};
 ghost use Rattle.amount.specs.Quantity.{quantityOf, quantityKind};
@@ -63,34 +63,26 @@ fn point_at(s: &[u8]) -> usize
     i
 }
 
-// What stands before the point, and what behind it.
-fn whole(s: &[u8]) -> &[u8]
-    ensures { λ r. ⌜ now r ≡ whole (now (s .entry)) ⌝ }
-{
-    text::head(s, point_at(s))
-}
-
-fn decimals(s: &[u8]) -> &[u8]
-    ensures { λ r. ⌜ now r ≡ decimals (now (s .entry)) ⌝ }
-{
-    text::rest(s, point_at(s) + 1)
-}
-
 // D(n, f, m).
 pub fn is_decimal(s: &[u8], n: usize, f: usize, m: usize) -> bool
     ensures { λ r. ⌜ r ≡ isDecimal n f m (now (s .entry)) ⌝ }
 {
-    let w = whole(s);
-    let d = decimals(s);
-    text::run_of(w, Class::Digit, 1, n)
-        & ((w.len() == s.len()) | ((s.len() <= m) & text::run_of(d, Class::Digit, 0, f)))
+    let point = point_at(s);
+    if !text::run_of(text::head(s, point), Class::Digit, 1, n) {
+        return false;
+    }
+    if point == s.len() {
+        return true;
+    }
+    (s.len() <= m) & text::run_of(text::rest(s, point + 1), Class::Digit, 0, f)
 }
 
 // The number that the digits write, the point passed over.
 fn number_of(s: &[u8]) -> u64
     ensures { λ r. ⌜ r ≡ numberOf (digitsOf (now (s .entry))) ⌝ }
 {
-    text::joined_number(whole(s), decimals(s))
+    let point = point_at(s);
+    text::joined_number(text::head(s, point), text::rest(s, point + 1))
 }
 
 // At the document's widths there are never more than 18 digits: with a point among them, 19 bytes hold no more.
@@ -98,9 +90,11 @@ fn value_of(s: &[u8]) -> Decimal
     requires { ⌜ length (digitsOf (now s)) ≤ 18 ⌝ }
     ensures { λ r. ⌜ r ≡ valueOf (now (s .entry)) ⌝ }
 {
+    let point = point_at(s);
+    let d = text::rest(s, point + 1);
     Decimal {
-        mantissa: number_of(s) as i64,
-        places: decimals(s).len() as u8,
+        mantissa: text::joined_number(text::head(s, point), d) as i64,
+        places: d.len() as u8,
     }
 }
 

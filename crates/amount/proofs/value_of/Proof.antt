@@ -1,23 +1,38 @@
 use Rattle.amount.proofs.value_of.Statement.{statement}
 use Rattle.amount.proofs.value_of.Tie as tie
-use Rattle.amount.proofs.SignLaws.{number-fits, places-fit, value-is}
+use mathlib.Core.Path.{_≡_, _∙_, ap}
 use borrow.Author.Needs.{needs}
+use native.Mathlib.Omega.{arith}
+use Rattle.text.specs.Number.{numberOf}
+use Rattle.amount.specs.Decimal.{digitsOf}
+use Rattle.amount.proofs.DecimalLaws.{point-room, decimals-are, digits-are}
+use Rattle.amount.proofs.SignLaws.{number-fits, places-fit, value-is}
 
-cast-t3 : tie.Need-cast-t3
-cast-t3 c = number-fits (c .before .before .args .s .now) (c .number-of .ensures)
+-- what the calls tell of the number
+number : (c : tie.After-joined-number) → c .joined-number .result ≡ numberOf (digitsOf (c .before .before .before .before .before .args .s .now))
+number c = c .joined-number .ensures ∙ ap numberOf (digits-are (c .before .before .before .before .before .args .s .now) (c .before .before .before .point-at .ensures) (c .before .head .ensures) (c .before .before .rest .ensures))
 
-cast-t6 : tie.Need-cast-t6
-cast-t6 c = places-fit (c .before .before .before .args .s .now) (c .decimals .ensures) (c .before .before .before .pre)
+add-rest : tie.Need-add-rest
+add-rest c = omega (arith, point-room ((c .before .before .args) .s .now) ((c .point-at) .ensures))
+
+cast-t7 : tie.Need-cast-t7
+cast-t7 c = number-fits ((c .before .before .before .before .before .args) .s .now) (number c)
+
+cast-t8 : tie.Need-cast-t8
+cast-t8 c = places-fit ((c .before .before .before .before .before .args) .s .now) (decimals-are ((c .before .before .before .before .before .args) .s .now) ((c .before .before .before .point-at) .ensures) ((c .before .before .rest) .ensures)) (c .before .before .before .before .before .pre)
 
 returns : tie.Need-returns
-returns c = value-is (c .before .before .before .args .s .now) (c .before .number-of .ensures) (c .decimals .ensures)
+returns c = value-is ((c .before .before .before .before .before .args) .s .now) (number c) (decimals-are ((c .before .before .before .before .before .args) .s .now) ((c .before .before .before .point-at) .ensures) ((c .before .before .rest) .ensures))
 
 pub value-of-spec : {M : Type 1} → statement M
 value-of-spec =
     tie.close
     (tie.spec
     (λ c κs. search needs)
-    cast-t3
+    add-rest
     (λ c κs. search needs)
-    cast-t6
+    (λ c κs. search needs)
+    (λ c κs. search needs)
+    cast-t7
+    cast-t8
     returns)
