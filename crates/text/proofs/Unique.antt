@@ -24,6 +24,12 @@ use Rattle.text.proofs.words.one_of.Kinds as one-of-kinds
 use Rattle.text.proofs.words.one_of.Reads as one-of-reads
 use Rattle.text.proofs.words.shaped.Kinds as shaped-kinds
 use Rattle.text.proofs.words.shaped.Reads as shaped-reads
+use Rattle.text.proofs.loads.word.Kinds as word-kinds
+use Rattle.text.proofs.loads.word.Reads as word-reads
+use Rattle.text.proofs.loads.begins_with.Kinds as begins-with-kinds
+use Rattle.text.proofs.loads.begins_with.Reads as begins-with-reads
+use Rattle.text.proofs.loads.next_row.Kinds as next-row-kinds
+use Rattle.text.proofs.loads.next_row.Reads as next-row-reads
 use Rattle.text.proofs.numbers.digit_of.Kinds as digit-of-kinds
 use Rattle.text.proofs.numbers.digit_of.Reads as digit-of-reads
 use Rattle.text.proofs.numbers.number_in.Kinds as number-in-kinds
@@ -76,6 +82,15 @@ one-of-determined κs a x y s t = same-both
 
 pub shaped-determined : Determined shaped-kinds.ps shaped-kinds.r shaped-reads.Post
 shaped-determined κs a x y s t = same-both
+
+pub word-determined : Determined word-kinds.ps word-kinds.r word-reads.Post
+word-determined κs a x y s t = same-both
+
+pub begins-with-determined : Determined begins-with-kinds.ps begins-with-kinds.r begins-with-reads.Post
+begins-with-determined κs a x y s t = same-both
+
+pub next-row-determined : Determined next-row-kinds.ps next-row-kinds.r next-row-reads.Post
+next-row-determined κs a x y s t = same-both
 
 pub digit-of-determined : Determined digit-of-kinds.ps digit-of-kinds.r digit-of-reads.Post
 digit-of-determined κs a x y s t = same-both

@@ -5,3 +5,4 @@ pub mod Word
 pub mod Shape
 pub mod Number
 pub mod FirstFrom
+pub mod Stride

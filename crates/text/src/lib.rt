@@ -2,6 +2,7 @@
 //
 // Every function answers for every input. What each answers is a definition of specs/, which the crates above cite.
 mod classes;
+mod loads;
 mod numbers;
 mod parts;
 mod words;
@@ -11,6 +12,9 @@ pub use classes::all_of;
 pub use classes::all_within;
 pub use classes::is_in;
 pub use classes::run_of;
+pub use loads::begins_with;
+pub use loads::next_row;
+pub use loads::word;
 pub use numbers::digit_of;
 pub use numbers::eight_digits;
 pub use numbers::four_digits;
