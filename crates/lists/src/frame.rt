@@ -1,6 +1,6 @@
 // What the paper's table says of each list, and the frame that all five share.
 ghost use mathlib.Core.Path.{_≡_};
-ghost use Rattle.lists.specs.Table.{lettersOf, keyWidth, rowWidth};
+ghost use Rattle.lists.specs.Table.{lettersOf, rowWidth};
 ghost use Rattle.lists.specs.Frame.{framed};
 use text::le16;
 use text::le32;
@@ -23,18 +23,6 @@ fn letters_of(mark: Mark) -> [u8; 3]
         Mark::Ccy => *b"CCY",
         Mark::Ven => *b"VEN",
         Mark::Ins => *b"INS",
-    }
-}
-
-pub fn key_width(mark: Mark) -> usize
-    ensures { λ r. ⌜ r ≡ keyWidth mark ⌝ }
-{
-    match mark {
-        Mark::Lei => 20,
-        Mark::Cty => 2,
-        Mark::Ccy => 3,
-        Mark::Ven => 4,
-        Mark::Ins => 12,
     }
 }
 

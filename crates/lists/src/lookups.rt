@@ -1,8 +1,11 @@
 // The look-ups that the rules ask for, with their answers named.
 ghost use mathlib.Core.Path.{_≡_};
 ghost use Rattle.lists.specs.Lookups.{leiRows, countryKnown, currencyRows, venueRows, instrumentRows};
-use crate::frame::Mark;
-use crate::scan::list_says;
+use crate::scan::country_list_says;
+use crate::scan::currency_list_says;
+use crate::scan::instrument_list_says;
+use crate::scan::lei_list_says;
+use crate::scan::venue_list_says;
 
 // Some row serves on the day: with status 1, 3 or 4, and with any of 1 to 4.
 pub struct LeiRows {
@@ -32,7 +35,7 @@ pub struct InstrumentRows {
 pub fn lei_rows(list: &[u8], key: &[u8], day: u32) -> LeiRows
     ensures { λ r. ⌜ r ≡ leiRows (now (list .entry)) (now (key .entry)) day ⌝ }
 {
-    let says = list_says(Mark::Lei, list, key, day);
+    let says = lei_list_says(list, key, day);
     LeiRows {
         unlapsed: says.first,
         any: says.second,
@@ -42,14 +45,14 @@ pub fn lei_rows(list: &[u8], key: &[u8], day: u32) -> LeiRows
 pub fn country_known(list: &[u8], key: &[u8], day: u32) -> bool
     ensures { λ r. ⌜ r ≡ countryKnown (now (list .entry)) (now (key .entry)) day ⌝ }
 {
-    let says = list_says(Mark::Cty, list, key, day);
+    let says = country_list_says(list, key, day);
     says.first
 }
 
 pub fn currency_rows(list: &[u8], key: &[u8], day: u32) -> CurrencyRows
     ensures { λ r. ⌜ r ≡ currencyRows (now (list .entry)) (now (key .entry)) day ⌝ }
 {
-    let says = list_says(Mark::Ccy, list, key, day);
+    let says = currency_list_says(list, key, day);
     CurrencyRows {
         current: says.first,
         pre_euro: says.second,
@@ -59,7 +62,7 @@ pub fn currency_rows(list: &[u8], key: &[u8], day: u32) -> CurrencyRows
 pub fn venue_rows(list: &[u8], key: &[u8], day: u32) -> VenueRows
     ensures { λ r. ⌜ r ≡ venueRows (now (list .entry)) (now (key .entry)) day ⌝ }
 {
-    let says = list_says(Mark::Ven, list, key, day);
+    let says = venue_list_says(list, key, day);
     VenueRows {
         kind1: says.first,
         kind2: says.second,
@@ -70,7 +73,7 @@ pub fn venue_rows(list: &[u8], key: &[u8], day: u32) -> VenueRows
 pub fn instrument_rows(list: &[u8], key: &[u8], day: u32) -> InstrumentRows
     ensures { λ r. ⌜ r ≡ instrumentRows (now (list .entry)) (now (key .entry)) day ⌝ }
 {
-    let says = list_says(Mark::Ins, list, key, day);
+    let says = instrument_list_says(list, key, day);
     InstrumentRows {
         listed: says.first,
         debt: says.second,

@@ -25,7 +25,7 @@ fn in_days(row: &[u8], at: usize, day: u32) -> bool
     (le32(row, at) <= day) & (day <= le32(row, at + 4))
 }
 
-fn lei_says(row: &[u8], day: u32) -> Answers
+pub fn lei_says(row: &[u8], day: u32) -> Answers
     ensures { λ r. ⌜ r ≡ rowSays Mark.Lei day (now (row .entry)) ⌝ }
 {
     let status = byte_at(row, 20);
@@ -42,7 +42,7 @@ fn lei_says(row: &[u8], day: u32) -> Answers
     }
 }
 
-fn country_says(row: &[u8], day: u32) -> Answers
+pub fn country_says(row: &[u8], day: u32) -> Answers
     ensures { λ r. ⌜ r ≡ rowSays Mark.Cty day (now (row .entry)) ⌝ }
 {
     let on = in_days(row, 2, day);
@@ -53,7 +53,7 @@ fn country_says(row: &[u8], day: u32) -> Answers
     }
 }
 
-fn currency_says(row: &[u8], day: u32) -> Answers
+pub fn currency_says(row: &[u8], day: u32) -> Answers
     ensures { λ r. ⌜ r ≡ rowSays Mark.Ccy day (now (row .entry)) ⌝ }
 {
     let kind = byte_at(row, 3);
@@ -66,7 +66,7 @@ fn currency_says(row: &[u8], day: u32) -> Answers
     }
 }
 
-fn venue_says(row: &[u8], day: u32) -> Answers
+pub fn venue_says(row: &[u8], day: u32) -> Answers
     ensures { λ r. ⌜ r ≡ rowSays Mark.Ven day (now (row .entry)) ⌝ }
 {
     let kind = byte_at(row, 4);
@@ -79,7 +79,7 @@ fn venue_says(row: &[u8], day: u32) -> Answers
 }
 
 // Debt and bonds are what 330 and 350 take for such.
-fn instrument_says(row: &[u8], day: u32) -> Answers
+pub fn instrument_says(row: &[u8], day: u32) -> Answers
     ensures { λ r. ⌜ r ≡ rowSays Mark.Ins day (now (row .entry)) ⌝ }
 {
     let cfi = part(row, 12, 18);
@@ -89,17 +89,5 @@ fn instrument_says(row: &[u8], day: u32) -> Answers
         first: on,
         second: matched[0] & on,
         third: matched[1] & on,
-    }
-}
-
-pub fn row_says(mark: Mark, row: &[u8], day: u32) -> Answers
-    ensures { λ r. ⌜ r ≡ rowSays mark day (now (row .entry)) ⌝ }
-{
-    match mark {
-        Mark::Lei => lei_says(row, day),
-        Mark::Cty => country_says(row, day),
-        Mark::Ccy => currency_says(row, day),
-        Mark::Ven => venue_says(row, day),
-        Mark::Ins => instrument_says(row, day),
     }
 }

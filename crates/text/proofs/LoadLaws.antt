@@ -3,7 +3,7 @@ use mathlib.Core.Path.{_≡_, _∙_, refl, sym, ap}
 use mathlib.Core.Bool.{Bool, true, false, cond, _||_, true≢false}
 use mathlib.Core.List.{List, [], _∷_}
 use Prim.Native.Nat.{ℕ, zero, suc, _+_, _*_, _-_, _/_, _≤_, _<_}
-use native.Mathlib.Nat.{add-zero, div-eq-sub-div, div-eq-of-lt}
+use native.Mathlib.Nat.{add-zero, suc-mul, div-mul-le-self, div-eq-sub-div, div-eq-of-lt}
 use native.Mathlib.Numerals.{add-one}
 use native.Mathlib.Omega.{arith}
 use borrow.Author.Tests.{eq-eqb, eqb-true, eqb-false, ne-eqb}
@@ -32,6 +32,12 @@ same-word (suc place) size (y ∷ key) (x ∷ s) h e = same-word place size key 
 pub other-word : (place size : ℕ) (key s : List ℕ) → place + size ≤ length key
     → (littleEndian size (drop place s) ≡ littleEndian size (drop place key) → ⊥) → startsWith key s ≡ false
 other-word place size key s h e = by-test (startsWith key s) (λ t. absurd (e (same-word place size key s h t))) (λ t. t)
+
+-- and no more does a row with another word than the key's
+pub other-row : (place size : ℕ) {asked : ℕ} (key s : List ℕ) (at : ℕ) → place + size ≤ length key → asked ≡ littleEndian size (drop place key)
+    → hasWord place size asked s at ≡ false → startsWith key (drop at s) ≡ false
+other-row place size {asked} key s at h asks e =
+    other-word place size key (drop at s) h (λ f. eqb-false _ _ e (ap (littleEndian size) (sym (drop-drop place at s)) ∙ f ∙ sym asks))
 
 -- bytes are told by the word that they write
 pub record Bytes (s : List ℕ) : Type 0 where
@@ -145,6 +151,28 @@ module _ {width place size : ℕ} (rowed : Rowed width place size) (asked : ℕ)
   pub next-none : (at : ℕ) → length s < at + width → at ≡ nextRow width place size asked s at
   unfolding nextRow firstOf
   next-none at short = let none : (length s - at) / width ≡ 0 = div-eq-of-lt (omega arith) in rw none
+
+  -- what holds of a place, and behind each row with another word where it holds of the row's place, holds of the next row's place
+  pub next-keeps : (P : ℕ → Type 0) → ((at : ℕ) → at + width ≤ length s → hasWord place size asked s at ≡ false → P at → P (at + width))
+      → (from : ℕ) → P from → P (nextRow width place size asked s from)
+  unfolding nextRow firstOf
+  next-keeps P on from p = go ((length s - from) / width) from refl p
+    where
+      go : (n at : ℕ) → (length s - at) / width ≡ n → P at → P (firstOf n width (hasWord place size asked s) at)
+      go zero at e p = p
+      go (suc n) at e p =
+          let some : suc n * width ≤ length s - at = rw e at (div-mul-le-self (length s - at) width) in
+          let fits : at + width ≤ length s = omega (arith, suc-mul n width, rowed .nonzero) in
+          let less : length s - at - width ≡ length s - (at + width) = omega arith in
+          let one-more : (length s - at) / width ≡ (length s - (at + width)) / width + 1 = div-eq-sub-div (rowed .nonzero) (omega arith) ∙ rw less in
+          let fewer : (length s - (at + width)) / width ≡ n = omega arith in
+          by-test
+          (hasWord place size asked s at)
+          (λ t. rw t p)
+          (λ t. rw t (go n (at + width) fewer (on at fits t p)))
+
+  pub next-behind : (from : ℕ) → from ≤ nextRow width place size asked s from
+  next-behind from = next-keeps (λ at. from ≤ at) (λ at fits e h. omega arith) from (omega arith)
 
   -- none of four rows has the word, so the first that has it is behind them
   pub next-four : (at : ℕ) → at + 4 * width ≤ length s → someOfFour width place size asked s at ≡ false

@@ -3,7 +3,7 @@ use Rattle.lists.proofs.lookups.country_known.Tie as tie
 use borrow.Author.Needs.{needs}
 
 returns : tie.Need-returns
-returns c = λ i. (c .list-says) .ensures i .first
+returns c = λ i. (c .country-list-says) .ensures i .first
 
 pub country-known-spec : {M : Type 1} → statement M
 country-known-spec =
