@@ -3,23 +3,28 @@ use mathlib.Core.Path.{_≡_, _∙_, refl, sym, ap, subst}
 use mathlib.Core.Bool.{Bool, true, false}
 use mathlib.Core.List.{List, [], _∷_}
 use mathlib.Core.Option.{some}
-use Prim.Native.Nat.{ℕ, zero, suc, _+_, _*_, _-_, _≤_, _<_}
-use native.Mathlib.Nat.{suc-mul, zero-mul, add-zero}
+use Prim.Native.Nat.{ℕ, zero, suc, _+_, _*_, _-_, _/_, _≤_, _<_}
+use native.Mathlib.Nat.{suc-mul, zero-mul, add-zero, mul-le-mul-right, mul-div-cancel, lt-of-mul-lt-mul-right, le-of-mul-le-mul-right}
 use native.Mathlib.Numerals.{add-one}
 use native.Mathlib.Omega.{arith}
 use borrow.Author.Tests.{lt-ltb, ltb-true, ne-eqb}
 use lib.ListN.{length, getD, take, drop, length-drop}
-use lib.Seq.{drop-drop, getD-drop}
+use lib.Seq.{drop-drop, getD-drop, length-take-le}
 use Rattle.text.specs.Word.{startsWith, same}
+use Rattle.text.specs.Number.{littleEndian}
+use Rattle.text.specs.Stride.{Rowed, hasWord, nextRow}
 use lib.Dec.{ltb}
 use Rattle.text.proofs.Bools.{by-test, and-left, and-right}
+use Rattle.text.proofs.WordLaws.{begins-within}
+use Rattle.text.proofs.LoadLaws.{other-row, next-keeps}
 use Rattle.register.specs.Frame.{width, place, used, framed, isUsed}
 use Rattle.register.specs.Rows.{Row, rowsIn, rowsOf, rowNumber, ownFrom, look, stateOf, standsAs, firstRow, standing, standingAt}
 use Rattle.register.specs.declared.rows.Found.{Found}
 use Rattle.register.specs.declared.rows.Found.the-variants.{At, Nowhere}
 use Rattle.register.specs.declared.rows.Standing.the-variants.{Absent, Live, Cancelled}
+use Rattle.register.proofs.Stores.{drop-take}
 use Rattle.register.proofs.Words.{starts-take}
-use Rattle.register.proofs.FrameLaws.{Framed, framed-is, is-framed, row-within}
+use Rattle.register.proofs.FrameLaws.{Framed, framed-is, is-framed, row-within, rows-within}
 
 pub rows-counted : (n k : ℕ) (s : List ℕ) → length (rowsIn n k s) ≡ k
 unfolding rowsIn
@@ -139,61 +144,98 @@ standing-found version n register pair =
     (λ t. rw t (stands-found version n register pair (framed-is version n register t) (ownFrom 0 (rowsOf n register) pair) refl))
     (λ t. rw t)
 
--- the rows before number i, which begins at `at`, are other pairs'
-pub record SearchSoFar (version n : ℕ) (register pair : List ℕ) (count i at : ℕ) : Type 0 where
+-- the used rows, with the head before them
+abbrev pub inUse : ℕ → List ℕ → List ℕ
+inUse n register = take (place n (used register)) register
+
+-- the rows before place `at` are other pairs'
+pub record SearchSoFar (version n : ℕ) (register pair rows : List ℕ) (at : ℕ) : Type 0 where
   pub framed-one : framed version n register ≡ true
-  pub count-is : count ≡ used register
-  pub within : i ≤ count
-  pub place-is : at ≡ place n i
-  pub left : ownFrom 0 (rowsOf n register) pair ≡ ownFrom i (rowsIn n (count - i) (drop at register)) pair
+  pub long : length pair ≡ 73
+  pub rows-are : rows ≡ inUse n register
+  pub row : ℕ
+  pub within : row ≤ used register
+  pub place-is : at ≡ place n row
+  pub left : ownFrom 0 (rowsOf n register) pair ≡ ownFrom row (rowsIn n (used register - row) (drop at register)) pair
 
 pub search-start :
-    {version n : ℕ} {register pair : List ℕ} {count : ℕ} → framed version n register ≡ true → count ≡ used register
-    → SearchSoFar version n register pair count 0 9
-search-start {version} {n} {register} {pair} {count} f e =
-    let z : count - 0 ≡ used register = omega arith in
-    record {
-      framed-one = f;
-      count-is = e;
-      within = omega arith;
-      place-is = omega (arith, zero-mul (width n));
-      left = rw z;
-    }
+    {version n : ℕ} {register pair rows : List ℕ} → framed version n register ≡ true → length pair ≡ 73 → rows ≡ inUse n register
+    → SearchSoFar version n register pair rows 9
+search-start {version} {n} {register} f l e =
+    let z : used register - 0 ≡ used register = omega arith in
+    record { framed-one = f; long = l; rows-are = e; row = 0; within = omega arith; place-is = omega (arith, zero-mul (width n)); left = rw z }
 
-module _ {version n : ℕ} {register pair : List ℕ} {count i at : ℕ} (so-far : SearchSoFar version n register pair count i at) where
-  compared : (b : Bool) → length pair ≡ 73 → startsWith pair (drop at register) ≡ b → same pair (take 73 (drop at register)) ≡ b
-  compared b l e = sym (starts-take pair (drop at register) ∙ ap (λ k. same pair (take k (drop at register))) l) ∙ e
+module _ {version n : ℕ} {register pair rows : List ℕ} {at : ℕ} (so-far : SearchSoFar version n register pair rows at) where
+  rows-end : length rows ≡ place n (used register)
+  rows-end =
+      let whole = framed-is version n register (so-far .framed-one) in
+      let room : place n (used register) ≤ length register = omega (arith, whole .head, rw length-drop at (rows-within whole)) in
+      rw (so-far .rows-are) (length-take-le (place n (used register)) register room)
 
-  pub search-small : i < count → at + width n ≤ length register
-  search-small h =
-      let f : Framed version n register = framed-is version n register (so-far .framed-one) in
-      let m : place n i + width n ≤ length register = row-within n register i (f .head) (omega arith) in
-      omega arith
+  pub search-behind : 9 ≤ at
+  search-behind = omega (arith, so-far .place-is)
 
-  pub search-hit : i < count → length pair ≡ 73 → startsWith pair (drop at register) ≡ true → At i ≡ firstRow version n register pair
-  unfolding firstRow ownFrom rowsIn
-  search-hit h l e =
-      let k : count - i ≡ suc (count - (i + 1)) = omega arith in
-      rw (so-far .framed-one) (sym (so-far .left ∙ rw (k, compared true l e)))
+  module _ (h : at < length rows) where
+    -- a place within the used rows is that of one of them
+    one-used : so-far .row < used register
+    one-used =
+        let before : so-far .row * width n < used register * width n = omega (arith, so-far .place-is, rows-end) in
+        lt-of-mul-lt-mul-right (width n) before
 
-  pub search-on : i < count → length pair ≡ 73 → startsWith pair (drop at register) ≡ false → SearchSoFar version n register pair count (i + 1) (at + width n)
-  unfolding ownFrom rowsIn
-  search-on h l e =
-      let k : count - i ≡ suc (count - (i + 1)) = omega arith in
-      let p : (i + 1) * width n ≡ i * width n + width n = ap (λ j. j * width n) (add-one i) ∙ suc-mul i (width n) in
-      record {
-        framed-one = so-far .framed-one;
-        count-is = so-far .count-is;
-        within = omega arith;
-        place-is = omega arith;
-        left = so-far .left ∙ rw (k, compared false l e, drop-drop (width n) at register);
-      }
+    pub search-small : at + width n ≤ length rows
+    search-small = omega (arith, so-far .place-is, rows-end, suc-mul (so-far .row) (width n), mul-le-mul-right (width n) one-used)
 
-  pub search-end : count ≤ i → Nowhere ≡ firstRow version n register pair
+    compared : (b : Bool) → startsWith pair (drop at rows) ≡ b → same pair (take 73 (drop at register)) ≡ b
+    compared b e =
+        let room : at + (length rows - at) ≡ place n (used register) = omega (arith, rows-end) in
+        let cut : drop at rows ≡ take (length rows - at) (drop at register) =
+        ap (drop at) (so-far .rows-are ∙ ap (λ k. take k register) (sym room)) ∙ drop-take at (length rows - at) register in
+        sym (starts-take pair (drop at register) ∙ ap (λ k. same pair (take k (drop at register))) (so-far .long))
+        ∙ sym (ap (startsWith pair) cut ∙ begins-within (length rows - at) pair (drop at register) (omega (arith, search-small, so-far .long)))
+        ∙ e
+
+    one-row : used register - so-far .row ≡ suc (used register - (so-far .row + 1))
+    one-row = omega (arith, one-used)
+
+    pub search-hit : startsWith pair (drop at rows) ≡ true → At ((at - 9) / width n) ≡ firstRow version n register pair
+    unfolding firstRow ownFrom rowsIn
+    search-hit e =
+        let back : at - 9 ≡ so-far .row * width n = omega (arith, so-far .place-is) in
+        let number : (at - 9) / width n ≡ so-far .row = rw back (mul-div-cancel (so-far .row) (omega arith)) in
+        rw (so-far .framed-one) (ap At number ∙ sym (so-far .left ∙ rw (one-row, compared true e)))
+
+    pub search-on : startsWith pair (drop at rows) ≡ false → SearchSoFar version n register pair rows (at + width n)
+    unfolding ownFrom rowsIn
+    search-on e =
+        let p : (so-far .row + 1) * width n ≡ so-far .row * width n + width n = ap (λ j. j * width n) (add-one (so-far .row)) ∙ suc-mul (so-far .row) (width n) in
+        record {
+          framed-one = so-far .framed-one;
+          long = so-far .long;
+          rows-are = so-far .rows-are;
+          row = so-far .row + 1;
+          within = omega (arith, one-used);
+          place-is = omega (arith, so-far .place-is);
+          left = so-far .left ∙ rw (one-row, compared false e, drop-drop (width n) at register);
+        }
+
+  pub search-end : length rows ≤ at → Nowhere ≡ firstRow version n register pair
   unfolding firstRow ownFrom rowsIn
   search-end h =
-      let k : count - i ≡ 0 = omega arith in
+      let behind : used register * width n ≤ so-far .row * width n = omega (arith, so-far .place-is, rows-end) in
+      let all : used register ≤ so-far .row = le-of-mul-le-mul-right behind (omega arith) in
+      let k : used register - so-far .row ≡ 0 = omega arith in
       rw (so-far .framed-one) (sym (so-far .left ∙ rw k))
+
+-- rows with another word than the pair's are passed
+pub search-next :
+    {version n : ℕ} {register pair rows : List ℕ} {from : ℕ} → SearchSoFar version n register pair rows from → {place : ℕ} → Rowed (width n) place 8 → place + 8 ≤ 73
+    → {asked at : ℕ} → asked ≡ littleEndian 8 (drop place pair) → at ≡ nextRow (width n) place 8 asked rows from → SearchSoFar version n register pair rows at
+search-next {version} {n} {register} {pair} {rows} {from} so-far {place} rowed short {asked} asks next =
+    rw next (next-keeps rowed asked rows (λ at. SearchSoFar version n register pair rows at) past from so-far)
+  where
+    past : (at : ℕ) → at + width n ≤ length rows → hasWord place 8 asked rows at ≡ false → SearchSoFar version n register pair rows at
+        → SearchSoFar version n register pair rows (at + width n)
+    past at fits e here = search-on here (omega arith) (other-row place 8 pair rows at (omega (arith, so-far .long)) asks e)
 
 -- a register that is not framed holds no pair, and neither does a row that is not used
 pub first-unframed : (version n : ℕ) (register pair : List ℕ) → framed version n register ≡ false → Nowhere ≡ firstRow version n register pair

@@ -1,14 +1,16 @@
 // Where a pair stands in a register, and how.
 ghost use mathlib.Core.Path.{_≡_};
-ghost use Prim.Native.Nat.{_+_};
-ghost use lib.ListN.{take, getD};
+ghost use Prim.Native.Nat.{_+_, _≤_};
 ghost use Rattle.register.specs.Rows.{firstRow, standing, standingAt};
 use crate::frame::framed;
 use crate::frame::is_used;
 use crate::frame::used;
+use text::begins_with;
 use text::byte_at;
 use text::head;
-use text::starts_with;
+use text::next_row;
+use text::rest;
+use text::word;
 
 pub enum Found {
     // in the used row of that number, counted from 0
@@ -22,36 +24,38 @@ pub enum Standing {
     Cancelled,
 }
 
-// A pair without the zeros behind its reference.
-fn unfilled(pair: &[u8; 73]) -> &[u8]
-    ensures { λ r. ⌜ now r ≡ take (21 + getD (now (pair .entry)) 20 0) (now (pair .entry)) ⌝ }
+// Where the word of a pair stands by which other pairs' rows are passed: the last eight bytes of the reference, in which references mostly
+// differ, or the first eight where it is shorter.
+fn word_place(pair: &[u8; 73]) -> usize
+    ensures { λ r. ⌜ r + 8 ≤ 73 ⌝ }
 {
-    head(pair, 21 + byte_at(pair, 20) as usize)
+    let length = byte_at(pair, 20) as usize;
+    if length < 8 {
+        return 21;
+    }
+    if 52 < length {
+        return 21;
+    }
+    13 + length
 }
 
-// The first used row whose first 73 bytes are the pair's. Words are compared from their end, and references mostly differ
-// there, so the pair is compared first without its zeros.
+// The first used row whose first 73 bytes are the pair's.
 pub fn find(register: &[u8], pair: &[u8; 73]) -> Found
     ensures { λ r. ⌜ r ≡ firstRow 1 0 (now (register .entry)) (now (pair .entry)) ⌝ }
 {
     if !framed(register) {
         return Found::Nowhere;
     }
-    let count = used(register) as usize;
+    let rows = head(register, 9 + used(register) as usize * 74);
     let whole = &pair[..];
-    let short = unfilled(pair);
-    let mut i = 0;
+    let place = word_place(pair);
+    let asked = word(whole, place, 8);
     let mut at = 9;
-    while i < count {
-        let end = at + 74;
-        let row = &register[at..end];
-        if starts_with(row, short) {
-            if starts_with(row, whole) {
-                return Found::At(i);
-            }
+    while at < rows.len() {
+        if begins_with(rest(rows, at), whole) {
+            return Found::At((at - 9) / 74);
         }
-        i += 1;
-        at = end;
+        at = next_row(rows, at + 74, 74, place, 8, asked);
     }
     Found::Nowhere
 }
