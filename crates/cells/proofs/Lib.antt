@@ -1,5 +1,5 @@
 -- Laws of the cells, and of the tables that a split line has.
 pub mod CellLaws
 pub mod Tables
-mod Filling
+mod PassLaws
 mod Unique
