@@ -4,5 +4,6 @@ pub mod ListLaws
 pub mod OrderLaws
 pub mod PlaceLaws
 pub mod Promises
+pub mod WordLaws
 mod MadeOf
 mod Unique

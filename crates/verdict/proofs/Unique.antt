@@ -8,6 +8,8 @@ use Rattle.verdict.proofs.place.Kinds as place-kinds
 use Rattle.verdict.proofs.place.Reads as place-reads
 use Rattle.verdict.proofs.list.Kinds as list-kinds
 use Rattle.verdict.proofs.list.Reads as list-reads
+use Rattle.verdict.proofs.list_by_words.Kinds as list-by-words-kinds
+use Rattle.verdict.proofs.list_by_words.Reads as list-by-words-reads
 
 pub judged-determined : Determined judged-kinds.ps judged-kinds.r judged-reads.Post
 judged-determined κs a x y s t = same-both
@@ -18,6 +20,9 @@ refused-determined κs a x y s t = same-both
 pub place-determined : Determined place-kinds.ps place-kinds.r place-reads.Post
 place-determined κs a x y s t = same-both
 
--- of `list`: every entry of the findings lent
+-- of `list` and `list_by_words`: every entry of the findings lent
 pub list-determined : Left list-kinds.ps list-kinds.r (λ κs s. s .1 .0 .now) list-reads.Post
 list-determined κs a x y s t = same-both
+
+pub list-by-words-determined : Left list-by-words-kinds.ps list-by-words-kinds.r (λ κs s. s .1 .0 .now) list-by-words-reads.Post
+list-by-words-determined κs a x y s t = same-both

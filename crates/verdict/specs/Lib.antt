@@ -3,3 +3,4 @@ pub mod Codes
 pub mod Verdict
 pub mod Findings
 pub mod Counted
+pub mod Bits

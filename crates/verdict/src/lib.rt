@@ -7,6 +7,7 @@ ghost use lib.Count.{ones};
 ghost use lib.ListN.{length};
 ghost use Rattle.verdict.specs.Verdict.{wordOf, pick, verdictOf, refusedBy};
 ghost use Rattle.verdict.specs.Findings.{over, findingsAfter, put};
+ghost use Rattle.verdict.specs.Bits.{bitsOf, flagsIn, Listed};
 
 mod codes;
 
@@ -93,6 +94,41 @@ pub fn list(found: &[bool; CODE_COUNT], findings: &mut [u16])
     }
     let table = CODES;
     list_by(&table, found, findings);
+}
+
+// The codes of a table whose bits are set in a word, the lowest bit first, into the entries from `from` on; behind the last of them.
+// Bits without a code are passed over.
+fn list_bits(table: &[u16], word: u64, findings: &mut [u16], from: usize) -> usize
+    requires { ⌜ (length (now table) ≤ 64) × (from + length (now table) ≤ length (now findings)) ⌝ }
+    ensures { λ r. ⌜ Listed (pick (now (table .entry)) (bitsOf 64 word)) from (now (findings .entry)) r (now (findings .exit)) ⌝ }
+{
+    let mut n = from;
+    let mut left = word;
+    while left != 0 {
+        let lowest = u64::trailing_zeros(left);
+        if table.len() <= lowest as usize {
+            return n;
+        }
+        findings[n] = table[lowest as usize];
+        n += 1;
+        left -= 1 << lowest;
+    }
+    n
+}
+
+// The codes whose bits are set in the words of a verdict, into the first entries; nothing is written where there are fewer entries than codes.
+// A line has few findings, so that this is shorter than to ask each flag.
+pub fn list_by_words(words: [u64; 3], findings: &mut [u16])
+    ensures { λ r. ⌜ now (findings .exit) ≡ findingsAfter (flagsIn words) (now (findings .entry)) ⌝ }
+{
+    if findings.len() < CODE_COUNT {
+        return;
+    }
+    let codes = CODES;
+    let table = &codes[..];
+    let first = list_bits(&table[0..64], words[0], findings, 0);
+    let second = list_bits(&table[64..128], words[1], findings, first);
+    list_bits(&table[128..], words[2], findings, second);
 }
 
 // A group of flags in place of those from `at` on; a group that goes past the last code changes none.
