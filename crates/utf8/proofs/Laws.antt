@@ -1,18 +1,21 @@
 -- Laws of the syntax: the row of a byte, and a text that is read up to a place.
 use Prim.Native.Nat.{ℕ, zero, suc, _+_, _-_, _≤_, _<_}
-use mathlib.Core.Path.{_≡_, refl}
+use mathlib.Core.Path.{_≡_, _∙_, refl, ap}
 use mathlib.Core.Bool.{Bool, true, _&&_}
 use mathlib.Core.List.{List, [], _∷_}
 use native.Mathlib.Omega.{arith}
 use native.Mathlib.Numerals.{sub-one}
-use lib.Dec.{ltb}
+use lib.Dec.{leb, ltb}
 use lib.ListN.{length, take, drop, getD, drop-of-length-le}
-use borrow.Author.Tests.{le-leb, lt-leb, ltb-true}
+use borrow.Author.Tests.{le-leb, lt-leb, leb-true, ltb-true}
 use Rattle.text.proofs.Bools.{and-left, and-right}
 use Rattle.text.proofs.Lists.{rest-at}
+use Rattle.text.specs.declared.classes.Class.the-variants.{Printable}
+use Rattle.text.specs.Class.{inClass, allOf}
 use Rattle.utf8.specs.declared.Next.{Next}
 use Rattle.utf8.specs.declared.Next.the-variants.{First, Tail, Never}
-use Rattle.utf8.specs.Abnf.{Row, upto, look, rows, within, awaited, after, starts, ended, counted, points}
+use Rattle.utf8.specs.declared.Points.the-variants.{Count}
+use Rattle.utf8.specs.Abnf.{Row, upto, look, rows, within, awaited, after, starts, ended, counted, points, pointsWithin}
 
 pub inside : (least most b : ℕ) → least ≤ b → b ≤ most → within least most b ≡ true
 inside least most b h g = rw (le-leb least b h, le-leb b most g)
@@ -69,3 +72,20 @@ module _ {s : List ℕ} {next : Next} {n i : ℕ} (c : ReadSoFar s next n i) whe
   pub read-end : length s ≤ i → ended next n ≡ points s
   unfolding counted
   read-end h = rw (drop-of-length-le s h) at (c .rest)
+
+-- each byte of printable ASCII is a code point
+plain-counted : (s : List ℕ) (n : ℕ) → allOf Printable s ≡ true → counted First n s ≡ Count (n + length s)
+unfolding counted allOf
+plain-counted [] n e = ap Count (let p : n ≡ n + 0 = omega arith in p)
+plain-counted (b ∷ s) n e =
+    let p = and-left (inClass Printable b) (allOf Printable s) e in
+    rw (← hits 1 rows 0x20 b refl (leb-true 0x20 b (and-left _ (leb b 0x7E) p)) (leb-true b 0x7E (and-right (leb 0x20 b) _ p)))
+    (plain-counted s (n + 1) (and-right (inClass Printable b) _ e) ∙ ap Count (let q : n + 1 + length s ≡ n + suc (length s) = omega arith in q))
+
+pub plain-points : (s : List ℕ) → allOf Printable s ≡ true → points s ≡ Count (length s)
+unfolding points
+plain-points s e = plain-counted s 0 e ∙ ap Count (let p : 0 + length s ≡ length s = omega arith in p)
+
+pub plain-within : (most : ℕ) (s : List ℕ) → allOf Printable s ≡ true → (leb 1 (length s) && leb (length s) most) ≡ pointsWithin most s
+unfolding pointsWithin
+plain-within most s e = rw (plain-points s e)

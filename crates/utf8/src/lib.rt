@@ -4,6 +4,8 @@
 // which section 3 encodes is a theorem beside the contracts.
 ghost use mathlib.Core.Path.{_≡_};
 ghost use Rattle.utf8.specs.Abnf.{first, awaited, after, starts, ended, points, countWithin, pointsWithin};
+use text::Class;
+use text::all_of;
 
 // What may come next: the first byte of a code point or the end; or a byte of a range and then a number of
 // continuation bytes; or nothing, since the bytes so far begin no text.
@@ -107,9 +109,12 @@ fn count_within(p: Points, most: usize) -> bool
     }
 }
 
-// From 1 to `most` code points, all well-formed and allowed.
+// From 1 to `most` code points, all well-formed and allowed. Most names are of plain letters, and then each byte is a code point.
 pub fn points_within(s: &[u8], most: usize) -> bool
     ensures { λ r. ⌜ r ≡ pointsWithin most (now (s .entry)) ⌝ }
 {
+    if all_of(s, Class::Printable) {
+        return (1 <= s.len()) & (s.len() <= most);
+    }
     count_within(code_points(s), most)
 }
