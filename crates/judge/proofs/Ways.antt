@@ -16,7 +16,9 @@ use Rattle.verdict.specs.declared.Verdict.{Verdict}
 use Rattle.verdict.specs.Codes.{codeCount}
 use Rattle.verdict.specs.Verdict.{codesFound, verdictOf, refusedBy}
 use Rattle.verdict.specs.Findings.{findingsAfter}
+use Rattle.verdict.specs.Bits.{flagsIn}
 use Rattle.verdict.proofs.ListLaws.{after-room}
+use Rattle.verdict.proofs.WordLaws.{words-find}
 use Rattle.judge.specs.Refusal.{allFlags, clean, early, notWhole, noRoom}
 use Rattle.judge.specs.Outcome.{written, refusedOutcome, outcome, Judged}
 use Rattle.judge.proofs.Firsts.{none-holds}
@@ -59,15 +61,15 @@ module _ (c : Call) (before : List ℕ) where
       unfolding clean
       not-clean h = ne-eqb _ _ (λ e. h (count-is ∙ e))
 
-      pub found-way : {findings : List ℕ} → (v .count ≡ 0 → ⊥) → findings ≡ findingsAfter found before
+      pub found-way : {findings : List ℕ} → (v .count ≡ 0 → ⊥) → findings ≡ findingsAfter (flagsIn (v .words)) before
           → Judged (outcome c (length before)) before v findings (c .register)
-      unfolding noRoom
+      unfolding noRoom verdictOf
       found-way h l =
           let dirty : clean c ≡ false = not-clean h in
           rw (out-judged c (length before) none whole (rw dirty))
           (record {
             says = says ∙ ap verdictOf flags-are;
-            lists = l ∙ ap (λ (fs : List Bool). findingsAfter fs before) flags-are ∙ sym (after-room (allFlags c) before room);
+            lists = l ∙ (λ j. findingsAfter (flagsIn (says j .words)) before) ∙ words-find found before ∙ ap (λ (fs : List Bool). findingsAfter fs before) flags-are ∙ sym (after-room (allFlags c) before room);
             keeps = rw dirty;
           })
 

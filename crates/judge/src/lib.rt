@@ -158,7 +158,7 @@ pub fn judge(
     );
     let verdict = verdict::judged(&flags);
     if verdict.count != 0 {
-        verdict::list(&flags, findings);
+        verdict::list_by_words(verdict.words, findings);
         return verdict;
     }
     let new = text::same(cells::cell(line, &table.starts, &table.ends, 1), b"NEW");
