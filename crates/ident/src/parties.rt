@@ -1,6 +1,6 @@
 // The party that a cell names: one parser over the kinds that the cell allows.
 ghost use mathlib.Core.Path.{_≡_};
-ghost use Rattle.ident.specs.Party.{allowed7, allowed12, allowed57, allowed59, named, allows, partOf, partRight, isPerson, personShaped, wellFormed, identifierOf, partyWith, partyOf, isLei, isMic, isConcat, isMalformed};
+ghost use Rattle.ident.specs.Party.{allowed7, allowed12, allowed57, allowed59, named, allows, partOf, partRight, isPerson, personShaped, partyOf, isLei, isMic, isConcat, isMalformed};
 use crate::codes::lei_shaped;
 use crate::codes::mic_shaped;
 use crate::persons::concat_shaped;
@@ -219,39 +219,27 @@ pub fn person_shaped(part: &[u8], identifier: Identifier) -> bool
     }
 }
 
-fn well_formed(allowed: Allowed, identifier: Identifier, part: &[u8]) -> bool
-    ensures { λ r. ⌜ r ≡ wellFormed allowed identifier (now (part .entry)) ⌝ }
-{
-    if !(allows(allowed, identifier) & part_right(part, identifier)) {
-        return false;
-    }
-    if !(allowed.shaped & is_person(identifier)) {
-        return true;
-    }
-    person_shaped(part, identifier)
-}
-
-fn identifier_of(s: &[u8], allowed: Allowed) -> Identifier
-    ensures { λ r. ⌜ r ≡ identifierOf allowed (now (s .entry)) ⌝ }
-{
-    let identifier = named(s);
-    if well_formed(allowed, identifier, part_of(s, identifier)) {
-        return identifier;
-    }
-    Identifier::Malformed
-}
-
-fn party_with(s: &[u8], identifier: Identifier) -> Party
-    ensures { λ r. ⌜ r ≡ partyWith identifier (now (s .entry)) ⌝ }
-{
-    let shaped = person_shaped(part_of(s, identifier), identifier);
-    Party { identifier, shaped }
-}
-
+// Anything that is not allowed, or whose part is not well formed, is malformed. The person shape is asked once, for the cells that want it and
+// for those that hand it on.
 pub fn parse_party(s: &[u8], allowed: Allowed) -> Party
     ensures { λ r. ⌜ r ≡ partyOf allowed (now (s .entry)) ⌝ }
 {
-    party_with(s, identifier_of(s, allowed))
+    let identifier = named(s);
+    let part = part_of(s, identifier);
+    if !(allows(allowed, identifier) & part_right(part, identifier)) {
+        return Party {
+            identifier: Identifier::Malformed,
+            shaped: false,
+        };
+    }
+    let shaped = person_shaped(part, identifier);
+    if !(!allowed.shaped | !is_person(identifier) | shaped) {
+        return Party {
+            identifier: Identifier::Malformed,
+            shaped: false,
+        };
+    }
+    Party { identifier, shaped }
 }
 
 // The kinds that rules and forms ask for.
