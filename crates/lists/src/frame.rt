@@ -1,10 +1,12 @@
 // What the paper's table says of each list, and the frame that all five share.
 ghost use mathlib.Core.Path.{_≡_};
+ghost use mathlib.Core.List.{[], _∷_, _++_};
+ghost use Rattle.text.specs.Number.{littleEndian};
 ghost use Rattle.lists.specs.Table.{lettersOf, rowWidth};
 ghost use Rattle.lists.specs.Frame.{framed};
-use text::le16;
+use text::byte_at;
 use text::le32;
-use text::starts_with;
+use text::word;
 
 pub enum Mark {
     Lei,
@@ -14,15 +16,16 @@ pub enum Mark {
     Ins,
 }
 
-fn letters_of(mark: Mark) -> [u8; 3]
-    ensures { λ r. ⌜ r ≡ lettersOf mark ⌝ }
+// The number that a list's first four bytes write, least first: the letters of its mark, and the low byte of version 1.
+fn opening(mark: Mark) -> u64
+    ensures { λ r. ⌜ r ≡ littleEndian 4 (lettersOf mark ++ (1 ∷ [])) ⌝ }
 {
     match mark {
-        Mark::Lei => *b"LEI",
-        Mark::Cty => *b"CTY",
-        Mark::Ccy => *b"CCY",
-        Mark::Ven => *b"VEN",
-        Mark::Ins => *b"INS",
+        Mark::Lei => 0x149454c,
+        Mark::Cty => 0x1595443,
+        Mark::Ccy => 0x1594343,
+        Mark::Ven => 0x14e4556,
+        Mark::Ins => 0x1534e49,
     }
 }
 
@@ -42,9 +45,9 @@ pub fn row_width(mark: Mark) -> usize
 pub fn framed(mark: Mark, list: &[u8]) -> bool
     ensures { λ r. ⌜ r ≡ framed mark (now (list .entry)) ⌝ }
 {
-    let letters = letters_of(mark);
-    let version = le16(list, 3);
-    let count = le32(list, 5) as usize;
-    let whole = 9 + count * row_width(mark);
-    (9 <= list.len()) & starts_with(list, &letters) & (version == 1) & (list.len() == whole)
+    if list.len() < 9 {
+        return false;
+    }
+    let whole = 9 + le32(list, 5) as usize * row_width(mark);
+    (word(list, 0, 4) == opening(mark)) & (byte_at(list, 4) == 0) & (list.len() == whole)
 }

@@ -1,13 +1,13 @@
 -- Words of several bytes: a text that begins with a key has the key's words, bytes are told by their word, and rows with another word are passed.
 use mathlib.Core.Path.{_≡_, _∙_, refl, sym, ap}
-use mathlib.Core.Bool.{Bool, true, false, cond, _||_, true≢false}
+use mathlib.Core.Bool.{Bool, true, false, cond, _&&_, _||_, true≢false, and-true}
 use mathlib.Core.List.{List, [], _∷_}
 use Prim.Native.Nat.{ℕ, zero, suc, _+_, _*_, _-_, _/_, _≤_, _<_}
 use native.Mathlib.Nat.{add-zero, suc-mul, div-mul-le-self, div-eq-sub-div, div-eq-of-lt}
 use native.Mathlib.Numerals.{add-one}
 use native.Mathlib.Omega.{arith}
 use borrow.Author.Tests.{eq-eqb, eqb-true, eqb-false, ne-eqb}
-use lib.Dec.{eqb}
+use lib.Dec.{eqb, lit<}
 use lib.ListN.{length, getD, drop, length-drop}
 use lib.Seq.{drop-drop, drop-length, getD-drop}
 use Rattle.text.specs.Word.{startsWith}
@@ -71,6 +71,39 @@ word-begins word s b c h =
     let e = eqb-true (littleEndian (length word) s) (littleEndian (length word) word) t in
     t ∙ sym (word-passed (length word) word s b c (omega arith) h e ∙ rw (drop-length word)))
     (λ t. t ∙ sym (other-word 0 (length word) word s (omega arith) (eqb-false (littleEndian (length word) s) (littleEndian (length word) word) t)))
+
+pub bytes-none : Bytes []
+bytes-none = record { small = λ i. lit< tt }
+
+pub bytes-more : {x : ℕ} {s : List ℕ} → x < 256 → Bytes s → Bytes (x ∷ s)
+bytes-more {x} {s} h b = record { small = each }
+  where
+    each : (i : ℕ) → getD (x ∷ s) i 0 < 256
+    each zero = h
+    each (suc i) = b .small i
+
+regroup : (p q r t u : Bool) → ((p && (q && (r && (t && true)))) && u) ≡ ((p && (q && (r && true))) && (t && (u && true)))
+regroup true true true true u = sym (and-true u)
+regroup true true true false u = refl
+regroup true true false t u = refl
+regroup true false r t u = refl
+regroup false q r t u = refl
+
+-- a mark of three letters and version 1 behind it, as the number of four bytes and a fifth
+pub marked : (a b c : ℕ) (s : List ℕ) → Bytes (a ∷ b ∷ c ∷ 1 ∷ []) → Bytes s → 5 ≤ length s
+    → (eqb (littleEndian 4 s) (littleEndian 4 (a ∷ b ∷ c ∷ 1 ∷ [])) && eqb (getD s 4 0) 0) ≡ (startsWith (a ∷ b ∷ c ∷ []) s && eqb (littleEndian 2 (drop 3 s)) 1)
+unfolding startsWith
+marked a b c [] m bytes h = absurd (omega arith)
+marked a b c (x ∷ []) m bytes h = absurd (omega arith)
+marked a b c (x ∷ y ∷ []) m bytes h = absurd (omega arith)
+marked a b c (x ∷ y ∷ z ∷ []) m bytes h = absurd (omega arith)
+marked a b c (x ∷ y ∷ z ∷ v ∷ []) m bytes h = absurd (omega arith)
+marked a b c (x ∷ y ∷ z ∷ v ∷ w ∷ s) m bytes h =
+    let behind : Bytes (v ∷ w ∷ s) = bytes-behind (bytes-behind (bytes-behind bytes)) in
+    let version : Bytes (1 ∷ 0 ∷ []) = bytes-more (lit< tt) (bytes-more (lit< tt) bytes-none) in
+    ap (λ t. t && eqb w 0) (word-begins (a ∷ b ∷ c ∷ 1 ∷ []) (x ∷ y ∷ z ∷ v ∷ w ∷ s) m bytes (omega arith))
+    ∙ regroup (eqb x a) (eqb y b) (eqb z c) (eqb v 1) (eqb w 0)
+    ∙ ap (λ t. (eqb x a && (eqb y b && (eqb z c && true))) && t) (sym (word-begins (1 ∷ 0 ∷ []) (v ∷ w ∷ s) version behind (omega arith)))
 
 -- the bytes before place i are the word's
 pub record BegunSoFar (word s : List ℕ) (i : ℕ) : Type 0 where

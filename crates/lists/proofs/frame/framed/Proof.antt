@@ -1,46 +1,51 @@
 use Rattle.lists.proofs.frame.framed.Statement.{statement}
 use Rattle.lists.proofs.frame.framed.Tie as tie
-use mathlib.Core.Path.{_∙_}
-use mathlib.Core.Bool.{_&&_}
-use Prim.Native.Nat.{_+_, _*_, _≤_}
-use lib.Dec.{leb, eqb}
-use lib.ListN.{length}
-use Rattle.text.specs.Word.{startsWith}
-use Rattle.lists.specs.Frame.{framedAs}
-use Rattle.lists.proofs.FrameLaws.{widths, rows-fit}
+use mathlib.Core.Path.{refl}
+use mathlib.Core.Logic.{inl, inr}
+use Prim.Native.Nat.{_≤_}
+use Rattle.lists.proofs.FrameLaws.{widths, rows-fit, framed-short, framed-by}
 use borrow.Author.Needs.{needs}
 use native.Mathlib.Omega.{arith}
 
 short : (c : tie.After-row-width) → c .row-width .result ≤ 30
-short c = rw (c .row-width .ensures) (widths (c .before .before .before .before .before .args .mark) .short)
-
-mul-whole : tie.Need-mul-whole
-mul-whole c = omega (arith, rows-fit (c .before .le32 .result) (c .row-width .result) (search needs) (short c))
-
-add-whole : tie.Need-add-whole
-add-whole c = omega (arith, rows-fit (c .before .le32 .result) (c .row-width .result) (search needs) (short c))
+short c = rw (c .row-width .ensures) (widths (c .before .before .before .before .args .mark) .short)
 
 returns : tie.Need-returns
-unfolding framedAs
-returns c =
-    let list = c .before .before .before .before .before .before .before .args .list .now in
-    let begun = c .starts-with .ensures ∙ (λ j. startsWith (c .before .before .before .before .before .letters-of .ensures j) list) in
-    λ i. leb 9 (length list)
-    && begun i
-    && eqb (c .before .before .before .before .le16 .ensures i) 1
-    && eqb (length list) (9 + c .before .before .before .le32 .ensures i * c .before .before .row-width .ensures i)
+returns c = framed-short ((c .before .before .args) .mark) ((c .before .before .args) .list .now) ((c .if1) .taken)
+
+mul-whole : tie.Need-mul-whole
+mul-whole c = omega (arith, rows-fit ((c .before .le32) .result) ((c .row-width) .result) (search needs) (short c))
+
+add-whole : tie.Need-add-whole
+add-whole c = omega (arith, rows-fit ((c .before .le32) .result) ((c .row-width) .result) (search needs) (short c))
+
+word-requires : tie.Need-word-requires
+word-requires c κs = (inr (inl refl), omega arith)
+
+returns-2 : tie.Need-returns-2
+returns-2 c =
+    framed-by
+    ((c .before .before .before .before .before .before .before .args) .mark)
+    ((c .before .before .before .before .before .before .before .args) .list .now)
+    (record { small = λ i. omega (arith, (c .before .before .before .before .before .before .shared-slice-known) .given i) })
+    (omega arith)
+    ((c .before .before .word) .ensures)
+    ((c .before .opening) .ensures)
+    ((c .byte-at) .ensures)
+    ((c .before .before .before .before .le32) .ensures)
+    ((c .before .before .before .row-width) .ensures)
 
 pub framed-spec : {M : Type 1} → statement M
 framed-spec =
     tie.close
     (tie.spec
-    (λ c κs. search needs)
-    (λ c κs. search needs)
+    returns
     (λ c κs. search needs)
     (λ c. search needs)
     (λ c κs. search needs)
     mul-whole
     add-whole
-    (λ c. search needs)
+    word-requires
     (λ c κs. search needs)
-    returns)
+    (λ c κs. search needs)
+    returns-2)
