@@ -26,10 +26,10 @@ loop-holds : tie.Need-loop-holds Inv-loop μ-loop
 loop-holds c = read-start Ccy ((c .before .if1) .left)
 
 returns-2 : tie.Need-returns-2 Inv-loop μ-loop
-returns-2 c = read-all (read-on ((c .before .before .before .before .before .before .before .before .loop) .inv) ((c .before .before .before .before .before .before .before .loop-test) .taken) (sym ((c .before .before .before .before .before .starts-with) .ensures) ∙ (c .before .before .before .before .if2) .taken) ((c .before .before .before .currency-says) .ensures) ((c .before .before .joined) .ensures)) (sym ((c .before .complete) .ensures) ∙ (c .if3) .taken)
+returns-2 c = read-all (read-on ((c .before .before .before .before .before .before .before .before .loop) .inv) (omega arith) (sym ((c .before .before .before .before .before .starts-with) .ensures) ∙ (c .before .before .before .before .if2) .taken) ((c .before .before .before .currency-says) .ensures) ((c .before .before .joined) .ensures)) (sym ((c .before .complete) .ensures) ∙ (c .if3) .taken)
 
 next-row-requires : tie.Need-next-row-requires Inv-loop μ-loop
-next-row-requires c κs = (worded Ccy .rowed, (c .before .before .before .loop-test) .taken)
+next-row-requires c κs = (worded Ccy .rowed, omega arith)
 
 loop-less : tie.Need-loop-less Inv-loop μ-loop
 loop-less c = omega (arith, (c .next-row) .ensures, next-behind (worded Ccy .rowed) ((c .before .before .before .before .before .before .word) .result) ((c .before .before .before .before .before .before .before .before .before .before .args) .list .now) ((c .before .before .before .before .before .loop) .at + 12))
@@ -38,8 +38,8 @@ loop-again : tie.Need-loop-again Inv-loop μ-loop
 loop-again c =
     read-next
     (⊎-elim
-    (λ w. read-on ((c .before .before .before .before .before .loop) .inv) ((c .before .before .before .before .loop-test) .taken) (sym ((c .before .before .starts-with) .ensures) ∙ w .0 .taken) (w .1 .ensures) (w .5 ∙ w .2 .ensures))
-    (λ w. rw (w .1) (read-past ((c .before .before .before .before .before .loop) .inv) ((c .before .before .before .before .loop-test) .taken) (sym ((c .before .before .starts-with) .ensures) ∙ w .0 .left)))
+    (λ w. read-on ((c .before .before .before .before .before .loop) .inv) (omega arith) (sym ((c .before .before .starts-with) .ensures) ∙ w .0 .taken) (w .1 .ensures) (w .5 ∙ w .2 .ensures))
+    (λ w. rw (w .1) (read-past ((c .before .before .before .before .before .loop) .inv) (omega arith) (sym ((c .before .before .starts-with) .ensures) ∙ w .0 .left)))
     ((c .before .if2) .came))
     ((c .before .before .before .before .before .before .word) .ensures)
     ((c .next-row) .ensures)

@@ -41,13 +41,13 @@ sub-t19 c = search-behind ((c .before .before .before .before .loop) .inv)
 
 returns-2 : tie.Need-returns-2 Inv-loop μ-loop
 returns-2 c =
-    search-hit ((c .before .before .before .before .loop) .inv) ((c .before .before .before .loop-test) .taken) (ap (startsWith ((c .before .before .before .before .before .before .before .before .before .before .before .before .before .args) .pair .now)) (sym ((c .before .before .rest) .ensures)) ∙ sym ((c .before .begins-with) .ensures) ∙ (c .if2) .taken)
+    search-hit ((c .before .before .before .before .loop) .inv) (omega arith) (ap (startsWith ((c .before .before .before .before .before .before .before .before .before .before .before .before .before .args) .pair .now)) (sym ((c .before .before .rest) .ensures)) ∙ sym ((c .before .begins-with) .ensures) ∙ (c .if2) .taken)
 
 add-next-row : tie.Need-add-next-row Inv-loop μ-loop
-add-next-row c = omega (arith, search-small ((c .before .before .before .before .loop) .inv) ((c .before .before .before .loop-test) .taken))
+add-next-row c = omega (arith, search-small ((c .before .before .before .before .loop) .inv) (omega arith))
 
 next-row-requires : tie.Need-next-row-requires Inv-loop μ-loop
-next-row-requires c κs = (rowed ((c .before .before .before .before .before .before .word-place) .result) ((c .before .before .before .before .before .before .word-place) .ensures), search-small ((c .before .before .before .before .loop) .inv) ((c .before .before .before .loop-test) .taken))
+next-row-requires c κs = (rowed ((c .before .before .before .before .before .before .word-place) .result) ((c .before .before .before .before .before .before .word-place) .ensures), search-small ((c .before .before .before .before .loop) .inv) (omega arith))
 
 loop-less : tie.Need-loop-less Inv-loop μ-loop
 loop-less c =
@@ -57,7 +57,7 @@ loop-less c =
 loop-again : tie.Need-loop-again Inv-loop μ-loop
 loop-again c =
     search-next
-    (search-on ((c .before .before .before .before .before .loop) .inv) ((c .before .before .before .before .loop-test) .taken) (ap (startsWith ((c .before .before .before .before .before .before .before .before .before .before .before .before .before .before .args) .pair .now)) (sym ((c .before .before .before .rest) .ensures)) ∙ sym ((c .before .before .begins-with) .ensures) ∙ (c .before .if2) .left))
+    (search-on ((c .before .before .before .before .before .loop) .inv) (omega arith) (ap (startsWith ((c .before .before .before .before .before .before .before .before .before .before .before .before .before .before .args) .pair .now)) (sym ((c .before .before .before .rest) .ensures)) ∙ sym ((c .before .before .begins-with) .ensures) ∙ (c .before .if2) .left))
     (rowed ((c .before .before .before .before .before .before .before .word-place) .result) ((c .before .before .before .before .before .before .before .word-place) .ensures))
     ((c .before .before .before .before .before .before .before .word-place) .ensures)
     ((c .before .before .before .before .before .before .word) .ensures)

@@ -25,10 +25,10 @@ eight-bytes-requires : tie.Need-eight-bytes-requires Inv-loop μ-loop
 eight-bytes-requires c κs = omega (arith, (c .before .loop) .inv .room)
 
 returns-2 : tie.Need-returns-2 Inv-loop μ-loop
-returns-2 c = begun-off ((c .before .before .before .before .loop) .inv) ((c .before .before .before .loop-test) .taken) ((c .before .before .eight-bytes) .ensures) ((c .before .eight-bytes2) .ensures) ((c .if2) .taken)
+returns-2 c = begun-off ((c .before .before .before .before .loop) .inv) (omega arith) ((c .before .before .eight-bytes) .ensures) ((c .before .eight-bytes2) .ensures) ((c .if2) .taken)
 
 loop-again : tie.Need-loop-again Inv-loop μ-loop
-loop-again c = begun-on ((c .before .before .before .before .loop) .inv) ((c .before .before .before .loop-test) .taken) ((c .before .before .eight-bytes) .ensures) ((c .before .eight-bytes2) .ensures) ((c .if2) .left)
+loop-again c = begun-on ((c .before .before .before .before .loop) .inv) (omega arith) ((c .before .before .eight-bytes) .ensures) ((c .before .eight-bytes2) .ensures) ((c .if2) .left)
 
 returns-3 : tie.Need-returns-3 Inv-loop μ-loop
 returns-3 c = (c .starts-with) .ensures ∙ (λ i. startsWith ((c .before .rest2) .ensures i) ((c .before .before .rest) .ensures i)) ∙ sym ((c .before .before .before .before .loop) .inv .left)

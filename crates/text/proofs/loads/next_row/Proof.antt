@@ -25,13 +25,13 @@ word-requires : tie.Need-word-requires Inv-loop μ-loop
 word-requires c κs = ((c .before .loop) .inv .rowed .sized, omega (arith, (c .before .loop) .inv .rowed .room))
 
 returns : tie.Need-returns Inv-loop μ-loop
-returns c = next-here ((c .before .before .before .loop) .inv) ((c .before .before .loop-test) .taken) ((c .before .word) .ensures) ((c .if1) .taken)
+returns c = next-here ((c .before .before .before .loop) .inv) (omega arith) ((c .before .word) .ensures) ((c .if1) .taken)
 
 loop-less : tie.Need-loop-less Inv-loop μ-loop
 loop-less c = omega (arith, (c .before .before .before .loop) .inv .rowed .nonzero)
 
 loop-again : tie.Need-loop-again Inv-loop μ-loop
-loop-again c = next-past ((c .before .before .before .loop) .inv) ((c .before .before .loop-test) .taken) ((c .before .word) .ensures) ((c .if1) .left)
+loop-again c = next-past ((c .before .before .before .loop) .inv) (omega arith) ((c .before .word) .ensures) ((c .if1) .left)
 
 returns-2 : tie.Need-returns-2 Inv-loop μ-loop
 returns-2 c = next-end ((c .before .loop) .inv) (omega arith)

@@ -41,7 +41,7 @@ loop-less : tie.Need-loop-less Inv-loop μ-loop
 loop-less c = omega (arith, (c .before .before .before .loop) .inv .last-is, (c .before .before .before .loop) .inv .rowed .nonzero)
 
 loop-again : tie.Need-loop-again Inv-loop μ-loop
-loop-again c = fours-on ((c .before .before .before .loop) .inv) ((c .before .before .loop-test) .taken) (sym ((c .before .in-four) .ensures) ∙ (c .if2) .left)
+loop-again c = fours-on ((c .before .before .before .loop) .inv) (omega arith) (sym ((c .before .in-four) .ensures) ∙ (c .if2) .left)
 
 returns-3 : tie.Need-returns-3 Inv-loop μ-loop
 returns-3 c = (c .before .loop) .inv .passed
