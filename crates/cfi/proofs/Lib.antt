@@ -2,5 +2,6 @@
 pub mod Findings
 mod WalkLaws
 mod Spelling
+mod GroupLaws
 mod NoCfi
 mod Unique

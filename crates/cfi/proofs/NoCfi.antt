@@ -3,12 +3,14 @@ use mathlib.Core.Path.{_≡_, _∙_, refl, sym}
 use mathlib.Core.Bool.{true, false, _&&_, and-false}
 use mathlib.Core.List.{List, [], _∷_, map}
 use Prim.Native.Nat.{ℕ}
+use native.Mathlib.Omega.{arith}
 use borrow.Author.Tests.{eqb-true}
 use lib.Dec.{eqb}
 use lib.ListN.{length, getD, replicate}
 use Rattle.text.proofs.Bools.{and-left, and-right}
 use Rattle.text.proofs.WordLaws.{other-length}
 use Rattle.cfi.specs.Rules.{Rule, rules, wrong, any, matches, broken, violated, codes, cfiFindings}
+use Rattle.cfi.proofs.GroupLaws.{firsts, among, rules-begun, group-finds, no-group}
 use Rattle.cfi.proofs.Spelling.{six, allSix, rules-six}
 
 module _ (cfi : List ℕ) (h : length cfi ≡ 6 → ⊥) where
@@ -35,10 +37,18 @@ module _ (cfi : List ℕ) (h : length cfi ≡ 6 → ⊥) where
     unfolding violated
     none-violated code = none-broken code rules rules-six
 
-    all-false : (cs : List ℕ) → map (violated kinds cfi) cs ≡ replicate (length cs) false
-    all-false [] = refl
-    all-false (code ∷ cs) = λ i. none-violated code i ∷ all-false cs i
+-- where no code is violated
+all-false : (kinds cfi : List ℕ) → ((code : ℕ) → violated kinds cfi code ≡ false) → (cs : List ℕ) → map (violated kinds cfi) cs ≡ replicate (length cs) false
+all-false kinds cfi none [] = refl
+all-false kinds cfi none (code ∷ cs) = λ i. none code i ∷ all-false kinds cfi none cs i
 
-    pub no-cfi : replicate 19 false ≡ cfiFindings kinds cfi
-    unfolding cfiFindings
-    no-cfi = sym (all-false codes)
+pub no-cfi : (cfi : List ℕ) → (length cfi ≡ 6 → ⊥) → (kinds : List ℕ) → replicate 19 false ≡ cfiFindings kinds cfi
+unfolding cfiFindings
+no-cfi cfi h kinds = sym (all-false kinds cfi (none-violated cfi h kinds) codes)
+
+-- a CFI that begins as no pattern does
+pub no-letter : (kinds cfi : List ℕ) → length cfi ≡ 6 → among (getD cfi 0 0) firsts ≡ false → replicate 19 false ≡ cfiFindings kinds cfi
+unfolding cfiFindings violated any
+no-letter kinds [] h e = absurd (omega arith)
+no-letter kinds (x ∷ t) h e =
+    sym (all-false kinds (x ∷ t) (λ k. sym (group-finds x t kinds k rules rules-begun) ∙ rw (no-group x e rules rules-begun)) codes)

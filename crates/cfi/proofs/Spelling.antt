@@ -10,10 +10,11 @@ use lib.ListN.{length, getD, take, drop, length-append}
 use lib.Seq.{take-at, drop-at, drop-append-add}
 use Rattle.text.specs.Ascii.{ascii}
 use Rattle.text.specs.Shape.{shape}
-use Rattle.text.proofs.Bools.{and-left, and-right}
+use Rattle.text.proofs.Bools.{by-test, and-left, and-right}
 use Rattle.cfi.specs.Rules.{Fault, Blank, Present, PresentNot, Not, UnitsAnd, wrong, Rule, rules, codes, any, matches, broken, violated, matchesCode, cfiFindings, words}
-use Rattle.cfi.specs.Table.{spaced, textOf, faultNumber, faultValue, rowsFrom, Spelled, matchesIn, wrongBy, rowBroken}
+use Rattle.cfi.specs.Table.{spaced, textOf, faultNumber, faultValue, rowsFrom, beginning, kept, group, Spelled, matchesIn, wrongBy, rowBroken}
 use Rattle.cfi.proofs.WalkLaws.{in-skip, map-ext, foundIn}
+use Rattle.cfi.proofs.GroupLaws.{rules-begun, group-finds}
 
 -- each pattern is of six bytes
 unfoldable pub six : List (List ℕ) → Bool
@@ -87,16 +88,33 @@ module _ (kinds cfi : List ℕ) where
       || ((λ j. any (λ row. eqb (getD row 0 0) k && rowBroken (sym (append-assoc front s (textOf rs)) j) kinds cfi row) (rowsFrom (sym (length-append front s) j) rs))
       ∙ rows-are-rules k (front ++ s) rs (and-right (six (r .patterns)) (allSix rs) e)) i
 
-  pub found-is : {rows : List (List ℕ)} {patterns numbers : List ℕ} → Spelled rows patterns numbers
-      → foundIn rows patterns numbers kinds cfi ≡ cfiFindings kinds cfi
-  unfolding foundIn cfiFindings violated
-  found-is s =
-      (λ j. foundIn (s .rows-are j) (s .patterns-are j) (s .codes-are j) kinds cfi) ∙ map-ext (λ k. rows-are-rules k [] rules rules-six) codes
+-- patterns of six bytes stay so in a group
+six-beginning : (x : ℕ) (ps : List (List ℕ)) → six ps ≡ true → six (beginning x ps) ≡ true
+unfolding six beginning
+six-beginning x [] e = refl
+six-beginning x (p ∷ ps) e =
+    let on = six-beginning x ps (and-right (eqb (length p) 6) (six ps) e) in
+    by-test (eqb (getD p 0 0) x) (λ t. rw (t, and-left (eqb (length p) 6) (six ps) e) on) (λ t. rw t on)
 
-module _ {rows : List (List ℕ)} {patterns numbers : List ℕ} (s : Spelled rows patterns numbers) where
-  pub spelled-rows : length rows ≡ 22
-  unfolding rowsFrom rules
-  spelled-rows = ap length (s .rows-are)
+six-kept : (ps : List (List ℕ)) (r : Rule) (rs : List Rule) → six ps ≡ true → allSix rs ≡ true → allSix (kept ps r rs) ≡ true
+unfolding allSix
+six-kept [] r rs e f = f
+six-kept (p ∷ ps) r rs e f = rw e f
 
-  pub spelled-codes : length numbers ≡ 19
-  spelled-codes = ap length (s .codes-are)
+six-group : (x : ℕ) (rs : List Rule) → allSix rs ≡ true → allSix (group x rs) ≡ true
+unfolding allSix group
+six-group x [] e = refl
+six-group x (r ∷ rs) e =
+    six-kept (beginning x (r .patterns)) r (group x rs) (six-beginning x (r .patterns) (and-left (six (r .patterns)) (allSix rs) e))
+    (six-group x rs (and-right (six (r .patterns)) (allSix rs) e))
+
+pub found-is : (kinds cfi : List ℕ) {rows : List (List ℕ)} {patterns : List ℕ} → length cfi ≡ 6 → Spelled (getD cfi 0 0) rows patterns
+    → foundIn rows patterns codes kinds cfi ≡ cfiFindings kinds cfi
+unfolding foundIn cfiFindings violated
+found-is kinds [] h s = absurd (omega arith)
+found-is kinds (x ∷ t) h s =
+    (λ j. foundIn (s .rows-are j) (s .patterns-are j) codes kinds (x ∷ t))
+    ∙ map-ext (λ k. rows-are-rules kinds (x ∷ t) k [] (group x rules) (six-group x rules rules-six) ∙ group-finds x t kinds k rules rules-begun) codes
+
+pub spelled-as : {letter : ℕ} {rows : List (List ℕ)} {patterns : List ℕ} (x : ℕ) → letter ≡ x → Spelled x rows patterns → Spelled letter rows patterns
+spelled-as x e s = rw e s

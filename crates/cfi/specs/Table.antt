@@ -2,13 +2,13 @@
 -- The public contract speaks of the rules alone.
 use Prim.Native.Nat.{ℕ, zero, suc, _+_, _-_}
 use mathlib.Core.Path.{_≡_}
-use mathlib.Core.Bool.{Bool, false, not, _&&_, _||_}
+use mathlib.Core.Bool.{Bool, false, cond, not, _&&_, _||_}
 use mathlib.Core.List.{List, [], _∷_, _++_}
 use lib.Dec.{eqb, leb}
 use lib.ListN.{length, getD, take, drop}
 use Rattle.text.specs.Ascii.{ascii}
 use Rattle.text.specs.Shape.{shape}
-use Rattle.cfi.specs.Rules.{Fault, Blank, Present, PresentNot, Not, UnitsAnd, Rule, rules, codes}
+use Rattle.cfi.specs.Rules.{Fault, Blank, Present, PresentNot, Not, UnitsAnd, Rule, rules}
 
 -- a space behind each pattern
 unfoldable pub spaced : List (List ℕ) → List ℕ
@@ -41,11 +41,25 @@ rowsFrom start (r ∷ rs) =
     (r .code ∷ r .cell ∷ faultNumber (r .fault) ∷ faultValue (r .fault) ∷ start ∷ (start + length (spaced (r .patterns))) ∷ [])
     ∷ rowsFrom (start + length (spaced (r .patterns))) rs
 
--- the constants spell the rules
-pub record Spelled (rows : List (List ℕ)) (patterns : List ℕ) (numbers : List ℕ) : Type 0 where
-  pub rows-are : rows ≡ rowsFrom 0 rules
-  pub patterns-are : patterns ≡ textOf rules
-  pub codes-are : numbers ≡ codes
+-- of patterns, those that begin with a letter
+unfoldable pub beginning : ℕ → List (List ℕ) → List (List ℕ)
+beginning letter [] = []
+beginning letter (pattern ∷ patterns) =
+    cond (eqb (getD pattern 0 0) letter) (pattern ∷ beginning letter patterns) (beginning letter patterns)
+
+abbrev pub kept : List (List ℕ) → Rule → List Rule → List Rule
+kept [] r rs = rs
+kept (pattern ∷ patterns) r rs = record { code = r .code; cell = r .cell; fault = r .fault; patterns = pattern ∷ patterns } ∷ rs
+
+-- of rules, those that have a pattern beginning with a letter, with these patterns alone
+unfoldable pub group : ℕ → List Rule → List Rule
+group letter [] = []
+group letter (r ∷ rs) = kept (beginning letter (r .patterns)) r (group letter rs)
+
+-- the constants for a letter spell the rules of its group
+pub record Spelled (letter : ℕ) (rows : List (List ℕ)) (patterns : List ℕ) : Type 0 where
+  pub rows-are : rows ≡ rowsFrom 0 (group letter rules)
+  pub patterns-are : patterns ≡ textOf (group letter rules)
 
 -- the CFI matches one of the patterns of six bytes, each with a space behind it, once `skip` more bytes are passed
 unfoldable pub matchesIn : List ℕ → ℕ → List ℕ → Bool
