@@ -158,7 +158,8 @@ pub fn judge(
     );
     let verdict = verdict::judged(&flags);
     if verdict.count != 0 {
-        verdict::list_by_words(verdict.words, findings);
+        let words = verdict.words;
+        verdict::list_by_words(words, findings);
         return verdict;
     }
     let new = text::same(cells::cell(line, &table.starts, &table.ends, 1), b"NEW");

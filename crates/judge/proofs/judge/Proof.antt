@@ -41,12 +41,12 @@ unfolding pairStands allFlags
 returns-3 c =
     let l = (c .before .before .before .before .before .before .before .before .before .before .before .before .before .before .before .before .before .before .before .before .before .before .before .before .before .before .before .before .before .before .before .before .before .before .before .args) .line .now in
     let R = (c .before .before .before .before .before .before .before .before .before .before .before .before .before .before .before .before .before .before .before .before .before .before .before .before .before .before .before .before .before .before .before .before .before .before .before .args) .register .now in
-    let tabled = split-whole l (c .before .before .before .before .before .before .before .before .before .before .before .before .before .before .before .before .before .before .before .before .before .before .before .split .result) (c .before .before .before .before .before .before .before .before .before .before .before .before .before .before .before .before .before .before .before .before .before .before .before .split .ensures) (not-false _ (c .before .before .before .before .before .before .before .before .before .before .before .before .before .before .before .before .before .before .before .before .before .before .if2 .left)) in
+    let tabled = split-whole l ((c .before .before .before .before .before .before .before .before .before .before .before .before .before .before .before .before .before .before .before .before .before .before .before .split) .result) ((c .before .before .before .before .before .before .before .before .before .before .before .before .before .before .before .before .before .before .before .before .before .before .before .split) .ensures) (not-false _ ((c .before .before .before .before .before .before .before .before .before .before .before .before .before .before .before .before .before .before .before .before .before .before .if2) .left)) in
     let pair = (c .before .before .before .before .before .before .before .before .before .before .before .before .before .before .before .before .before .before .pair-of) .ensures in
-    let found : (c .before .before .before .before .before .before .before .before .before .before .before .before .before .before .before .find) .result ≡ firstRow 1 0 R (pairOf l) = c .before .before .before .before .before .before .before .before .before .before .before .before .before .before .before .find .ensures ∙ (λ j. firstRow 1 0 R (pair j)) in
-    let stands : (c .before .before .before .before .before .before .before .before .before .before .before .before .before .standing-at) .result ≡ pairStands R l = c .before .before .before .before .before .before .before .before .before .before .before .before .before .standing-at .ensures ∙ (λ j. standingAt 1 0 R (found j)) ∙ standing-found 1 0 R (pairOf l) in
+    let found : (c .before .before .before .before .before .before .before .before .before .before .before .before .before .before .before .find) .result ≡ firstRow 1 0 R (pairOf l) = (c .before .before .before .before .before .before .before .before .before .before .before .before .before .before .before .find) .ensures ∙ (λ j. firstRow 1 0 R (pair j)) in
+    let stands : (c .before .before .before .before .before .before .before .before .before .before .before .before .before .standing-at) .result ≡ pairStands R l = (c .before .before .before .before .before .before .before .before .before .before .before .before .before .standing-at) .ensures ∙ (λ j. standingAt 1 0 R (found j)) ∙ standing-found 1 0 R (pairOf l) in
     let flags : (c .before .before .before .before .before .before .before .before .before .flags-of) .result ≡ allFlags (C (c .before .before .before .before .before .before .before .before .before .before .before .before .before .before .before .before .before .before .before .before .before .before .before .before .before .before .before .before .before .before .before .before .before .before .before)) = (c .before .before .before .before .before .before .before .before .before .flags-of) .ensures R stands in
-    found-way (C (c .before .before .before .before .before .before .before .before .before .before .before .before .before .before .before .before .before .before .before .before .before .before .before .before .before .before .before .before .before .before .before .before .before .before .before)) (c .before .before .before .before .before .before .before .before .before .before .before .before .before .before .before .before .before .before .before .before .before .before .before .before .before .before .before .before .before .before .before .before .before .before .before .args .findings .now) (c .before .before .before .before .before .before .before .before .before .before .before .before .before .before .before .before .before .before .before .before .before .before .before .before .before .early-refusal .ensures) (c .before .before .before .before .before .before .before .before .before .before .before .before .before .before .before .before .before .before .before .before .before .before .before .before .if1 .left) (tabled .count) flags (c .before .before .before .before .before .before .before .judged .ensures) (c .before .before .before .before .before .if3 .taken) (c .before .before .list .ensures)
+    found-way (C (c .before .before .before .before .before .before .before .before .before .before .before .before .before .before .before .before .before .before .before .before .before .before .before .before .before .before .before .before .before .before .before .before .before .before .before)) ((c .before .before .before .before .before .before .before .before .before .before .before .before .before .before .before .before .before .before .before .before .before .before .before .before .before .before .before .before .before .before .before .before .before .before .before .args) .findings .now) ((c .before .before .before .before .before .before .before .before .before .before .before .before .before .before .before .before .before .before .before .before .before .before .before .before .before .early-refusal) .ensures) ((c .before .before .before .before .before .before .before .before .before .before .before .before .before .before .before .before .before .before .before .before .before .before .before .before .if1) .left) (tabled .count) flags ((c .before .before .before .before .before .before .before .judged) .ensures) ((c .before .before .before .before .before .if3) .taken) ((c .before .before .list-by-words) .ensures)
 
 cell-requires : tie.Need-cell-requires
 cell-requires c κs = split-whole (c .before .before .before .before .before .before .before .before .before .before .before .before .before .before .before .before .before .before .before .before .before .before .before .before .before .before .before .before .before .before .before .before .before .args .line .now) (c .before .before .before .before .before .before .before .before .before .before .before .before .before .before .before .before .before .before .before .before .before .split .result) (c .before .before .before .before .before .before .before .before .before .before .before .before .before .before .before .before .before .before .before .before .before .split .ensures) (not-false _ (c .before .before .before .before .before .before .before .before .before .before .before .before .before .before .before .before .before .before .before .before .if2 .left))
