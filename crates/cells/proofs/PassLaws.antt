@@ -7,7 +7,7 @@ use native.Mathlib.Numerals.{add-one}
 use native.Mathlib.Omega.{arith}
 use borrow.Author.Tests.{eq-eqb, ne-eqb, leb-true, leb-false, ltb-true, ltb-false}
 use lib.Dec.{leb, ltb}
-use lib.ListN.{length, getD, take, drop, set, replicate, length-set, drop-of-length-le}
+use lib.ListN.{length, getD, take, drop, set, replicate, length-set}
 use lib.Seq.{take-suc, take-suc-set, take-all, take-set-le, getD-take, drop-length}
 use Rattle.text.proofs.Bools.{by-test, and-left, and-right}
 use Rattle.text.proofs.Lists.{rest-at}

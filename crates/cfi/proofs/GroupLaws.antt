@@ -1,15 +1,15 @@
 -- The rules of a letter's group find of a CFI that begins with it what all rules find.
 use mathlib.Core.Path.{_≡_, _∙_, refl, sym, ap}
-use mathlib.Core.Bool.{Bool, true, false, cond, _&&_, _||_, and-false, true≢false}
-use mathlib.Core.List.{List, [], _∷_, map}
+use mathlib.Core.Bool.{Bool, true, false, _&&_, _||_, and-false, true≢false}
+use mathlib.Core.List.{List, [], _∷_}
 use Prim.Native.Nat.{ℕ}
 use borrow.Author.Tests.{ne-eqb, eqb-true, eqb-false}
 use lib.Dec.{eqb}
-use lib.ListN.{length, getD, replicate}
+use lib.ListN.{getD}
 use Rattle.text.specs.Ascii.{ascii}
 use Rattle.text.specs.Shape.{suits, shape}
 use Rattle.text.proofs.Bools.{by-test, and-left, and-right}
-use Rattle.cfi.specs.Rules.{Rule, rules, words, wrong, any, matches, broken, violated, codes, cfiFindings}
+use Rattle.cfi.specs.Rules.{Rule, rules, words, wrong, any, matches, broken}
 use Rattle.cfi.specs.Table.{beginning, kept, group}
 
 -- the letters that a pattern begins with

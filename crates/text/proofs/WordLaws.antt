@@ -60,18 +60,6 @@ module _ {word s : List ℕ} {n : ℕ} (so-far : EndedSoFar word s n) where
       let z : n ≡ 0 = omega arith in
       sym (so-far .left ∙ rw z)
 
--- a text that does not begin as the word begins does not begin with it
-pub begins-otherwise : (n : ℕ) (word s : List ℕ) → startsWith (take n word) s ≡ false → startsWith word s ≡ false
-unfolding startsWith
-begins-otherwise zero word s e = absurd (true≢false e)
-begins-otherwise (suc n) [] s e = e
-begins-otherwise (suc n) (y ∷ word) [] e = refl
-begins-otherwise (suc n) (y ∷ word) (x ∷ s) e = go (eqb x y) (begins-otherwise n word s) e
-  where
-    go : (t : Bool) → (startsWith (take n word) s ≡ false → startsWith word s ≡ false) → (t && startsWith (take n word) s) ≡ false → (t && startsWith word s) ≡ false
-    go true f g = f g
-    go false f g = refl
-
 -- what is long enough to begin with the word tells as much as all of the text
 pub begins-within : (n : ℕ) (word s : List ℕ) → length word ≤ n → startsWith word (take n s) ≡ startsWith word s
 unfolding startsWith

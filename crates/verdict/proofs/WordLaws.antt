@@ -7,7 +7,7 @@ use native.Mathlib.Nat.{pow-suc, pow-le-pow-right}
 use native.Mathlib.Numerals.{add-one}
 use native.Mathlib.Omega.{arith}
 use borrow.Author.Tests.{eqb-true, eqb-false}
-use lib.Count.{trailingZeros, under, trailing-of-zero}
+use lib.Count.{trailingZeros, trailing-of-zero}
 use lib.Dec.{eqb, lit<}
 use lib.ListN.{length, getD, take, drop, set, length-set, take-append-drop, length-append, length-drop}
 use lib.Seq.{take-suc-set, drop-set-lt, append-snoc}
@@ -17,7 +17,6 @@ use Rattle.verdict.specs.Codes.{ruleCodes, formCodes, codes, codeCount}
 use Rattle.verdict.specs.Verdict.{bit, wordOf, words, keep, pick}
 use Rattle.verdict.specs.Findings.{over, findingsAfter}
 use Rattle.verdict.specs.Bits.{bitsOf, flagsIn, overFrom, Listed}
-use Rattle.verdict.proofs.BitLaws.{bit-small}
 use Rattle.verdict.proofs.ListLaws.{pick-short, after-room}
 use Rattle.verdict.proofs.Promises.{code-count}
 

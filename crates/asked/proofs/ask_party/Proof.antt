@@ -2,7 +2,6 @@ use Rattle.asked.proofs.ask_party.Statement.{statement}
 use Rattle.asked.proofs.ask_party.Tie as tie
 use mathlib.Core.Path.{_∙_, ap}
 use mathlib.Core.Bool.{_&&_, _||_}
-use Rattle.ident.specs.Party.{partOf, isLei, isMic, isPerson}
 use Rattle.ident.specs.Person.{countryOf}
 use Rattle.lists.specs.Lookups.{countryKnown}
 use Rattle.facts.specs.Words.{leiGood, kind1, kind3}

@@ -3,7 +3,6 @@ use Rattle.verdict.proofs.list_bits.Tie as tie
 use Rattle.verdict.proofs.WordLaws.{BitsSoFar, bits-start, bits-stop, bits-end, one-bit, low, bit-room, bits-on}
 use lib.Pow.{pow-pos}
 use lib.Count.{trailingZeros, trailing-le}
-use borrow.Author.Needs.{needs}
 use native.Mathlib.Omega.{arith}
 
 abbrev Inv-loop : tie.InvT-loop

@@ -2,8 +2,6 @@ use Rattle.facts.proofs.entities.entity_facts.Statement.{statement}
 use Rattle.facts.proofs.entities.entity_facts.Tie as tie
 use mathlib.Core.Path.{_∙_, ap}
 use mathlib.Core.Bool.{not, _&&_}
-use mathlib.Core.List.{List}
-use Prim.Native.Nat.{ℕ}
 use lib.Dec.{eqb}
 use lib.ListN.{length}
 use Rattle.text.specs.Ascii.{ascii}

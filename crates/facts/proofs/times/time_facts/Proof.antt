@@ -1,10 +1,9 @@
 use Rattle.facts.proofs.times.time_facts.Statement.{statement}
 use Rattle.facts.proofs.times.time_facts.Tie as tie
-use mathlib.Core.Path.{_∙_, ap}
+use mathlib.Core.Path.{_∙_}
 use mathlib.Core.Bool.{not, _&&_}
 use lib.Dec.{eqb, ltb}
 use lib.ListN.{length}
-use Rattle.calendar.specs.declared.moments.Moment.{Moment}
 use Rattle.facts.specs.Words.{notBefore, tooOld}
 use Rattle.facts.specs.Facts.{timeFrom}
 use borrow.Author.Needs.{needs}

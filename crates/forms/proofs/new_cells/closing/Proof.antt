@@ -3,20 +3,12 @@ use Rattle.forms.proofs.new_cells.closing.Tie as tie
 use mathlib.Core.Path.{_∙_, ap}
 use mathlib.Core.Bool.{true, false, cond, not}
 use mathlib.Core.List.{[], _∷_}
-use lib.Dec.{eqb}
 use Rattle.text.specs.Class.{runOf}
-use Rattle.text.specs.declared.classes.Class.the-variants.{Capital, CapitalDigit, Alphanumeric, Printable}
+use Rattle.text.specs.declared.classes.Class.the-variants.{Capital}
 use Rattle.text.specs.Word.{blank}
-use Rattle.utf8.specs.Abnf.{pointsWithin}
 use Rattle.calendar.specs.Dates.{isDate}
-use Rattle.calendar.specs.Moments.{isWhen}
-use Rattle.ident.specs.Codes.{leiShaped, micShaped, isinRight}
 use Rattle.ident.specs.Party.{isMalformed}
-use Rattle.amount.specs.Decimal.{isDecimal}
-use Rattle.amount.specs.Signed.{isSigned}
-use Rattle.amount.specs.Price.{priceOf, priceKind}
-use Rattle.amount.specs.Quantity.{quantityKind}
-use Rattle.forms.specs.declared.tables.Form.the-variants.{ReportStatus, Truth, Swap, SecondCurrency}
+use Rattle.forms.specs.declared.tables.Form.the-variants.{Truth}
 use Rattle.forms.specs.declared.read.Read.{Read}
 use Rattle.forms.specs.Forms.{word, holds, formOf}
 use Rattle.forms.specs.Findings.{formFinding}

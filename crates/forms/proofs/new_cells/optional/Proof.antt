@@ -4,7 +4,6 @@ use mathlib.Core.Bool.{not}
 use lib.Dec.{eqb}
 use lib.ListN.{length}
 use Rattle.forms.proofs.ReadLaws.{and-cond}
-use borrow.Author.Needs.{needs}
 
 returns : tie.Need-returns
 returns c = and-cond (eqb (length ((c .args) .s .now)) 0) (not ((c .args) .ok))
