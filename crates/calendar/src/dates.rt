@@ -17,7 +17,7 @@ pub enum Date {
     Malformed,
 }
 
-// The two digits at a place where there are digits.
+// The two digits at a place where there are digits. A digit is 48 more than it counts, so together they are 11 times 48 more.
 pub fn two_at(s: &[u8], at: usize) -> u32
     requires { ⌜ pairAt at (now s) ≡ true ⌝ }
     ensures { λ r. ⌜ r ≡ twoDigits (drop at (now (s .entry))) ⌝ }
