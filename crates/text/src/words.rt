@@ -6,8 +6,8 @@ use crate::classes::Class;
 use crate::classes::is_in;
 use crate::parts::rest;
 
-// Compared from the word's end, since keys and identifiers that differ mostly begin alike. Its last byte is compared by itself:
-// where one word is held against many rows, that is all that most of them cost.
+// Compared from the word's end, since words and identifiers that differ mostly begin alike. Its last byte is compared by itself: that is
+// mostly all that another word costs.
 pub fn starts_with(s: &[u8], word: &[u8]) -> bool
     ensures { λ r. ⌜ r ≡ startsWith (now (word .entry)) (now (s .entry)) ⌝ }
 {
