@@ -6,7 +6,7 @@ use Prim.Native.Nat.{ℕ, _*_, _≤_, _<_}
 use native.Mathlib.Omega.{arith}
 use lib.ListN.{length, getD, take, drop}
 use lib.Seq.{take-append-seam, drop-append-seam}
-use Rattle.verdict.specs.Codes.{ruleCodes, formCodes, codes, codeCount}
+use Rattle.verdict.specs.Codes.{ruleCodes, formCodes, codes, ruleCount, codeCount}
 use Rattle.verdict.specs.Verdict.{bit, words, pick, codesFound, verdictOf}
 use Rattle.verdict.specs.Findings.{findingsAfter}
 use Rattle.verdict.specs.Counted.{bitsSet, bitAt, risingOver, times}
@@ -37,7 +37,7 @@ module _ {table : List ℕ} {flags : List Bool} (of : Table table flags) where
   listed-known x e = omega (arith, pick-known x table flags)
 
 -- our table
-pub rule-count : length ruleCodes ≡ 72
+pub rule-count : length ruleCodes ≡ ruleCount
 unfolding ruleCodes
 rule-count = refl
 

@@ -184,7 +184,7 @@ words-listed words h =
     ((rw (bits-length 64 v) at (pick-append (drop 64 codes) (bitsOf 64 v) (bitsOf 64 w ++ [])))
     ∙ rw (append-nil (bitsOf 64 w)))
 
-part-sizes : (length (take 64 codes) ≡ 64) × (length (take 64 (drop 64 codes)) ≡ 64) × (length (drop 64 (drop 64 codes)) ≡ 9)
+part-sizes : (length (take 64 codes) ≡ 64) × (length (take 64 (drop 64 codes)) ≡ 64) × (length (drop 64 (drop 64 codes)) ≡ codeCount - 128)
 unfolding codes ruleCodes formCodes
 part-sizes = (refl, refl, refl)
 
@@ -207,13 +207,13 @@ module _ (words : List ℕ) {n : ℕ} {before one : List ℕ} (room : codeCount 
     size : length (pick (take 64 codes) (bitsOf 64 (getD words 0 0)) ++ pick (take 64 (drop 64 codes)) (bitsOf 64 (getD words 1 0))) ≤ 128
     size = rw length-append (omega (arith, few, few-more))
 
-    pub third-room : m + 9 ≤ length two
+    pub third-room : m + (codeCount - 128) ≤ length two
     third-room = omega (arith, both .behind, size, listed-length both (omega (arith, size)))
 
     pub three-listed : {end : ℕ} {three : List ℕ} → Listed (pick (drop 64 (drop 64 codes)) (bitsOf 64 (getD words 2 0))) m two end three
         → length words ≡ 3 → three ≡ findingsAfter (flagsIn words) before
     three-listed third h =
-        let last : length (pick (drop 64 (drop 64 codes)) (bitsOf 64 (getD words 2 0))) ≤ 9 = omega (arith, pick-short (drop 64 (drop 64 codes)) (bitsOf 64 (getD words 2 0)), part-sizes .2) in
+        let last : length (pick (drop 64 (drop 64 codes)) (bitsOf 64 (getD words 2 0))) ≤ codeCount - 128 = omega (arith, pick-short (drop 64 (drop 64 codes)) (bitsOf 64 (getD words 2 0)), part-sizes .2) in
         listed-all (listed-both both third (omega (arith, size, last)))
         ∙ ap (λ (l : List ℕ). over l before)
         (append-assoc (pick (take 64 codes) (bitsOf 64 (getD words 0 0))) (pick (take 64 (drop 64 codes)) (bitsOf 64 (getD words 1 0))) (pick (drop 64 (drop 64 codes)) (bitsOf 64 (getD words 2 0)))

@@ -10,7 +10,7 @@ ruleCodes =
     80 ∷ 110 ∷ 120 ∷ 121 ∷ 122 ∷ 123 ∷ 150 ∷ 160 ∷ 161 ∷ 162 ∷ 163 ∷ 164 ∷
     170 ∷ 200 ∷ 210 ∷ 211 ∷ 212 ∷ 213 ∷ 240 ∷ 251 ∷ 260 ∷ 270 ∷ 280 ∷ 281 ∷
     290 ∷ 310 ∷ 330 ∷ 331 ∷ 340 ∷ 350 ∷ 351 ∷ 360 ∷ 361 ∷ 362 ∷ 370 ∷ 371 ∷
-    372 ∷ 380 ∷ 440 ∷ 451 ∷ 473 ∷ 480 ∷ 481 ∷ 490 ∷ 500 ∷ 501 ∷ 502 ∷ 510 ∷
+    372 ∷ 380 ∷ 440 ∷ 451 ∷ 470 ∷ 473 ∷ 480 ∷ 481 ∷ 490 ∷ 500 ∷ 501 ∷ 502 ∷ 510 ∷
     511 ∷ 520 ∷ 530 ∷ 531 ∷ 540 ∷ 541 ∷ 542 ∷ 550 ∷ 551 ∷ 552 ∷ 560 ∷ 570 ∷ []
 
 -- 1000 + f for each cell f from 1 to 65
@@ -20,6 +20,9 @@ formCodes = countFrom 1001 65
 unfoldable pub codes : List ℕ
 codes = ruleCodes ++ formCodes
 
--- how many codes there are
+-- how many codes there are, of the rules and in all
+abbrev pub ruleCount : ℕ
+ruleCount = 73
+
 abbrev pub codeCount : ℕ
-codeCount = 137
+codeCount = 138

@@ -1,7 +1,9 @@
 // The codes of the paper.
 
-// 72 codes and 65 forms.
-pub const CODE_COUNT: usize = 137;
+// 73 rules and 65 forms.
+pub const RULE_COUNT: usize = 73;
+
+pub const CODE_COUNT: usize = 138;
 
 // In rising order: the rules', then 1000 + f for each cell f.
 pub const CODES: [u16; CODE_COUNT] = [
@@ -57,6 +59,7 @@ pub const CODES: [u16; CODE_COUNT] = [
     380,
     440,
     451,
+    470,
     473,
     480,
     481,

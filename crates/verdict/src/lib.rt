@@ -13,6 +13,7 @@ mod codes;
 
 use crate::codes::CODES;
 pub use codes::CODE_COUNT;
+pub use codes::RULE_COUNT;
 
 #[repr(C)]
 pub struct Verdict {
