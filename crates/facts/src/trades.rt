@@ -2,7 +2,7 @@
 ghost use mathlib.Core.Path.{_≡_};
 ghost use Rattle.cells.specs.Split.{Tabled};
 ghost use Rattle.forms.specs.Read.{readOf};
-ghost use Rattle.facts.specs.Words.{heldAtAll, heldWord, heldSwap};
+ghost use Rattle.facts.specs.Words.{heldAtAll, heldWord, heldSwap, isinWrong};
 ghost use Rattle.facts.specs.Rules.{holdings};
 ghost use Rattle.facts.specs.Facts.{quantityHeld, priceHeld, tradeFrom};
 use crate::parties::is_off;
@@ -23,6 +23,13 @@ pub struct TradeFacts {
     // 331 and 351
     pub debt_in_units: bool,
     pub bond_without_net: bool,
+}
+
+// Stands in for the reading of the baskets of cell 47.
+fn isin_wrong(s: &[u8]) -> bool
+    ensures { λ r. ⌜ r ≡ isinWrong (now (s .entry)) ⌝ }
+{
+    false
 }
 
 // The cells of a trade that the venue's and the instrument's rules read: 3, 25, 36 and 37, with what the lists say of 36 and 41 and what the others
