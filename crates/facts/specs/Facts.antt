@@ -38,7 +38,7 @@ use Rattle.facts.specs.declared.trades.TradeFacts.{TradeFacts}
 use Rattle.facts.specs.declared.lines.DealFacts.{DealFacts}
 use Rattle.facts.specs.declared.lines.Facts.{Facts}
 use Rattle.facts.specs.Call.{Call}
-use Rattle.facts.specs.Words.{present, says, off, momentIn, momentOf, dayIn, isLive, noMoney, partyLeiWrong, partyCountryWrong, partyMicWrong, partyShapeWrong, birthWrong, isLate, isPast, isEntity, secondCurrency, notBefore, tooOld}
+use Rattle.facts.specs.Words.{present, says, off, momentIn, momentOf, dayIn, isLive, noMoney, partyLeiWrong, partyCountryWrong, partyMicWrong, partyShapeWrong, birthWrong, isLate, isPast, isEntity, secondCurrency, isinWrong, notBefore, tooOld}
 use Rattle.facts.specs.Asked.{askedOf}
 use Rattle.facts.specs.Rules.{goodCells, at, T, standingOf, holdings}
 
@@ -123,6 +123,7 @@ tradeWith line venue rows debt bond =
       branch = present (cell line 37) && (off (cell line 36) || venue .kind2);
       «debt_in_units» = debt;
       «bond_without_net» = bond;
+      «wrong_isin» = isinWrong (cell line 47);
     }
 
 -- `kinds` is what the cells hold

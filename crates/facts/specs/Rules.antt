@@ -1,4 +1,4 @@
--- The 72 rules, one entry each in rising order: the code, for which lines it is judged, the cells that it reads, and when it is violated.
+-- The 73 rules, one entry each in rising order: the code, for which lines it is judged, the cells that it reads, and when it is violated.
 use Prim.Native.Nat.{ℕ}
 use mathlib.Core.Bool.{Bool, false, not, _&&_, _||_}
 use mathlib.Core.List.{List, [], _∷_, _++_, map}
@@ -16,7 +16,7 @@ use Rattle.register.specs.Rows.{standing}
 use Rattle.register.specs.declared.rows.Standing.{Standing}
 use Rattle.cfi.specs.Rules.{violated}
 use Rattle.facts.specs.Call.{Call}
-use Rattle.facts.specs.Words.{present, says, off, momentOf, isLive, isAbsent, isCancelled, leiGoodUnlapsed, leiGood, leiWrong, countryWrong, kind1, kind2, kind3, partyLeiWrong, partyCountryWrong, partyMicWrong, partyShapeWrong, birthWrong, isLate, isPast, isEntity, currencyWrong, quantityCurrencyWrong, secondCurrency, notBefore, tooOld, heldAtAll, heldWord, heldQuantity, heldPrice, heldSwap}
+use Rattle.facts.specs.Words.{present, says, off, momentOf, isLive, isAbsent, isCancelled, leiGoodUnlapsed, leiGood, leiWrong, countryWrong, kind1, kind2, kind3, partyLeiWrong, partyCountryWrong, partyMicWrong, partyShapeWrong, birthWrong, isLate, isPast, isEntity, currencyWrong, quantityCurrencyWrong, secondCurrency, isinWrong, notBefore, tooOld, heldAtAll, heldWord, heldQuantity, heldPrice, heldSwap}
 
 -- for which lines a rule is judged
 pub data When : Type 0 where
@@ -193,7 +193,8 @@ rules5 =
     ∷ rule 380 OnNew (43 ∷ 38 ∷ []) (byCfi 380)
     ∷ rule 440 OnNew (44 ∷ 28 ∷ []) (λ c. currencyWrong (c .ccy) (at c 44) (T c))
     ∷ rule 451 OnNew (45 ∷ 28 ∷ []) (λ c. currencyWrong (c .ccy) (secondCurrency (at c 45)) (T c))
-    ∷ rule 473 OnNew (43 ∷ 47 ∷ []) (byCfi 473)
+    ∷ rule 470 OnNew (47 ∷ []) (λ c. isinWrong (at c 47))
+    ∷ rule 473 OnNew (43 ∷ 47 ∷ 48 ∷ []) (byCfi 473)
     ∷ rule 480 OnNew (43 ∷ 48 ∷ []) (byCfi 480)
     ∷ rule 481 OnNew (43 ∷ 48 ∷ []) (byCfi 481)
     ∷ rule 490 OnNew (43 ∷ 49 ∷ []) (byCfi 490)
@@ -223,6 +224,6 @@ rules6 =
 abbrev pub rules : List Rule
 rules = rules1 ++ (rules2 ++ (rules3 ++ (rules4 ++ (rules5 ++ rules6))))
 
--- the 72 flags of a call, in the order of the codes
+-- the 73 flags of a call, in the order of the codes
 unfoldable pub flags : Call → List Bool
 flags c = map (given c) rules

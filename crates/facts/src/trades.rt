@@ -23,6 +23,8 @@ pub struct TradeFacts {
     // 331 and 351
     pub debt_in_units: bool,
     pub bond_without_net: bool,
+    // 470
+    pub wrong_isin: bool,
 }
 
 // Stands in for the reading of the baskets of cell 47.
@@ -32,8 +34,8 @@ fn isin_wrong(s: &[u8]) -> bool
     false
 }
 
-// The cells of a trade that the venue's and the instrument's rules read: 3, 25, 36 and 37, with what the lists say of 36 and 41 and what the others
-// hold: 331 is units (2) in 30 and percent (4) in 33, 351 a blank (1) in 35.
+// The cells of a trade that the venue's and the instrument's rules read, and 470: 3, 25, 36, 37 and 47, with what the lists say of 36 and 41 and what
+// the others hold: 331 is units (2) in 30 and percent (4) in 33, 351 a blank (1) in 35.
 pub fn trade_facts<'a, 't>(
     line: &'a [u8],
     starts: &'t [usize; 65],
@@ -58,6 +60,7 @@ pub fn trade_facts<'a, 't>(
         branch: branch & (off | venue.kind2),
         debt_in_units: (held[30] == 2) & (held[33] == 4) & rows.debt,
         bond_without_net: (held[35] == 1) & rows.bond,
+        wrong_isin: isin_wrong(cells::cell(line, starts, ends, 47)),
     }
 }
 
