@@ -9,6 +9,7 @@ use Rattle.forms.proofs.StatusLaws.{not-both}
 use Rattle.facts.specs.Call.{Call}
 use Rattle.facts.specs.Words.{isAbsent, isCancelled, leiGood}
 use Rattle.facts.specs.Rules.{When, OnNew, OnCxl, OnBoth, Rule, isNew, isCxl, judged, good, andGood, given, at, standingOf, rules, flags}
+use Rattle.verdict.specs.Codes.{ruleCount, codeCount}
 
 -- whether a rule is judged for a line that is NEW or not, and CXL or not
 abbrev pub asked : Bool → Bool → When → Bool
@@ -36,7 +37,7 @@ when-new c n rs = sym (with-status c n (not-both (cell (c .line) 1) n) rs)
 
 -- of a line that is not NEW only 024, 025 and 060 are judged, and they if it is CXL
 pub not-new : (c : Call) → isNew (c .line) ≡ false
-    → take 72 (set (set (set (replicate 137 false)
+    → take ruleCount (set (set (set (replicate codeCount false)
     1 (isCxl (c .line) && good (c .line) 4 && good (c .line) 2 && isAbsent (standingOf c)))
     2 (isCxl (c .line) && good (c .line) 4 && good (c .line) 2 && isCancelled (standingOf c)))
     6 (isCxl (c .line) && good (c .line) 6 && not (leiGood (c .lei) (at c 6) (c .day))))

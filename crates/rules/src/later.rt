@@ -35,7 +35,7 @@ pub fn price_and_venue(base: [bool; CODE_COUNT], f: Facts) -> [bool; CODE_COUNT]
     verdict::place(base, 36, &group)
 }
 
-// 372 380 440 451 473 480 481 490 500 501 502 510.
+// 372 380 440 451 470 473 480 481 490 500 501 502 510.
 pub fn currencies_and_cfi(base: [bool; CODE_COUNT], f: Facts) -> [bool; CODE_COUNT]
     ensures { λ r. ⌜ ((c : Call) → isNew (c .line) ≡ true → f ≡ factsOf c → r ≡ put base 48 (map (given c) rules5)) ⌝ }
 {
@@ -48,7 +48,8 @@ pub fn currencies_and_cfi(base: [bool; CODE_COUNT], f: Facts) -> [bool; CODE_COU
         ok[43] & ok[38] & cfi[2],
         ok[44] & ok[28] & money.notional,
         ok[45] & ok[28] & money.second,
-        ok[43] & ok[47] & cfi[3],
+        ok[47] & trade.wrong_isin,
+        ok[43] & ok[47] & ok[48] & cfi[3],
         ok[43] & ok[48] & cfi[4],
         ok[43] & ok[48] & cfi[5],
         ok[43] & ok[49] & cfi[6],
@@ -62,7 +63,7 @@ pub fn currencies_and_cfi(base: [bool; CODE_COUNT], f: Facts) -> [bool; CODE_COU
 
 // 511 520 530 531 540 541 542 550 551 552 560 570.
 pub fn cfi_and_dates(base: [bool; CODE_COUNT], f: Facts) -> [bool; CODE_COUNT]
-    ensures { λ r. ⌜ ((c : Call) → isNew (c .line) ≡ true → f ≡ factsOf c → r ≡ put base 60 (map (given c) rules6)) ⌝ }
+    ensures { λ r. ⌜ ((c : Call) → isNew (c .line) ≡ true → f ≡ factsOf c → r ≡ put base 61 (map (given c) rules6)) ⌝ }
 {
     let ok = f.ok;
     let money = f.money;
@@ -83,5 +84,5 @@ pub fn cfi_and_dates(base: [bool; CODE_COUNT], f: Facts) -> [bool; CODE_COUNT]
         ok[43] & ok[56] & cfi[18],
         ok[29] & ok[26] & ok[27] & ok[57] & deal.undecided,
     ];
-    verdict::place(base, 60, &group)
+    verdict::place(base, 61, &group)
 }

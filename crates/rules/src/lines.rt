@@ -1,4 +1,4 @@
-// The 137 flags of a line: 72 rules, then 65 forms.
+// The 138 flags of a line: 73 rules, then 65 forms.
 ghost use mathlib.Core.Path.{_≡_};
 ghost use mathlib.Core.Bool.{true, false};
 ghost use mathlib.Core.List.{List, _++_};
@@ -23,6 +23,7 @@ use facts::LeiFit;
 use forms::Read;
 use register::Standing;
 use verdict::CODE_COUNT;
+use verdict::RULE_COUNT;
 
 // A line that is not NEW: of its rules 024, 025 and 060 are judged, and they if it is CXL. `submitting` is what is asked of cell 6.
 pub fn unless_new<'a, 't>(
@@ -42,10 +43,10 @@ pub fn unless_new<'a, 't>(
     found[1] = cxl & ok[4] & ok[2] & facts::is_absent(standing);
     found[2] = cxl & ok[4] & ok[2] & facts::is_cancelled(standing);
     found[6] = cxl & ok[6] & !submitting.any;
-    verdict::place(found, 72, &forms)
+    verdict::place(found, RULE_COUNT, &forms)
 }
 
-// The rules of a line that is NEW, 12 at a time, then its forms.
+// The rules of a line that is NEW, in groups of 12 or 13, then its forms.
 fn by_facts(forms: &[bool; 65], f: Facts) -> [bool; CODE_COUNT]
     ensures { λ r. ⌜ ((c : Call) → isNew (c .line) ≡ true → f ≡ factsOf c → now (forms .entry) ≡ formFindings (c .line) → r ≡ flags c ++ formFindings (c .line)) ⌝ }
 {
@@ -55,7 +56,7 @@ fn by_facts(forms: &[bool; 65], f: Facts) -> [bool; CODE_COUNT]
     let found = price_and_venue(found, f);
     let found = currencies_and_cfi(found, f);
     let found = cfi_and_dates(found, f);
-    verdict::place(found, 72, forms)
+    verdict::place(found, RULE_COUNT, forms)
 }
 
 // A line that is NEW: its split, what was read of it, what the lists say of it, how its pair stands in the register, and the submission moment.

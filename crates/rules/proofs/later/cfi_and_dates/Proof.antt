@@ -12,7 +12,7 @@ use borrow.Author.Needs.{needs}
 
 returns : tie.Need-returns
 unfolding factsOf askedOf moneyAsked moneyFrom currencyFrom currencyWrong timeOf dealOf cfiFindings
-returns c = λ k n e. (c .place) .ensures ∙ ap (put ((c .before .before .before .before .before .before .before .before .before .before .before .args) .base) 60) (rw e (when-new k n rules6))
+returns c = λ k n e. (c .place) .ensures ∙ ap (put ((c .before .before .before .before .before .before .before .before .before .before .before .args) .base) 61) (rw e (when-new k n rules6))
 
 pub cfi-and-dates-spec : {M : Type 1} → statement M
 cfi-and-dates-spec =

@@ -12,12 +12,14 @@ use borrow.Author.Needs.{needs}
 
 returns : tie.Need-returns
 unfolding factsOf askedOf tradeOf moneyAsked moneyFrom currencyFrom currencyWrong cfiFindings
-returns c = λ k n e. (c .place) .ensures ∙ ap (put ((c .before .before .before .before .before .before .before .before .before .args) .base) 48) (rw e (when-new k n rules5))
+returns c = λ k n e. (c .place) .ensures ∙ ap (put ((c .before .before .before .before .before .before .before .before .before .before .args) .base) 48) (rw e (when-new k n rules5))
 
 pub currencies-and-cfi-spec : {M : Type 1} → statement M
 currencies-and-cfi-spec =
     tie.close
     (tie.spec
+    (λ c. search needs)
+    (λ c. search needs)
     (λ c. search needs)
     (λ c. search needs)
     (λ c. search needs)

@@ -7,6 +7,7 @@ use lib.ListN.{replicate}
 use Rattle.forms.specs.Findings.{formFindings}
 use Rattle.forms.proofs.FindingLaws.{findings-count}
 use Rattle.facts.specs.Rules.{given, rules1, rules2, rules3, rules4, rules5, rules6, flags}
+use Rattle.verdict.specs.Codes.{ruleCount, codeCount}
 use Rattle.verdict.specs.Findings.{put}
 use Rattle.verdict.proofs.PlaceLaws.{Filled, filled-none, filled-more, filled-all}
 use native.Mathlib.Omega.{arith}
@@ -16,14 +17,14 @@ returns : tie.Need-returns
 unfolding flags
 returns c =
     λ k new e forms.
-    let s0 : Filled 0 [] (replicate 137 false) = filled-none refl in
+    let s0 : Filled 0 [] (replicate codeCount false) = filled-none refl in
     let s1 = filled-more s0 (map (given k) rules1) 12 refl (omega arith) ((c .before .before .before .before .before .before .before .pair-and-buyer) .ensures k new e) in
     let s2 = filled-more s1 (map (given k) rules2) 12 refl (omega arith) ((c .before .before .before .before .before .before .deciders-and-seller) .ensures k new e) in
     let s3 = filled-more s2 (map (given k) rules3) 12 refl (omega arith) ((c .before .before .before .before .before .seller-and-time) .ensures k new e) in
     let s4 = filled-more s3 (map (given k) rules4) 12 refl (omega arith) ((c .before .before .before .before .price-and-venue) .ensures k new e) in
-    let s5 = filled-more s4 (map (given k) rules5) 12 refl (omega arith) ((c .before .before .before .currencies-and-cfi) .ensures k new e) in
+    let s5 = filled-more s4 (map (given k) rules5) 13 refl (omega arith) ((c .before .before .before .currencies-and-cfi) .ensures k new e) in
     let s6 = filled-more s5 (map (given k) rules6) 12 refl (omega arith) ((c .before .before .cfi-and-dates) .ensures k new e) in
-    filled-all (filled-more s6 (formFindings (k .line)) 65 (findings-count (k .line)) (omega arith) ((c .place) .ensures ∙ ap (put ((c .before .before .cfi-and-dates) .result) 72) forms))
+    filled-all (filled-more s6 (formFindings (k .line)) 65 (findings-count (k .line)) (omega arith) ((c .place) .ensures ∙ ap (put ((c .before .before .cfi-and-dates) .result) ruleCount) forms))
 
 pub by-facts-spec : {M : Type 1} → statement M
 by-facts-spec =

@@ -13,6 +13,7 @@ use Rattle.facts.specs.declared.answers.LeiFit.{LeiFit}
 use Rattle.facts.specs.Words.{isAbsent, isCancelled}
 use Rattle.facts.specs.Asked.{leiFit}
 use Rattle.facts.specs.Rules.{isCxl, goodCells, flags}
+use Rattle.verdict.specs.Codes.{ruleCount, codeCount}
 use Rattle.verdict.specs.Findings.{put}
 use Rattle.verdict.proofs.PlaceLaws.{Filled, filled-more, filled-all}
 use Rattle.rules.proofs.ByStatus.{not-new}
@@ -22,7 +23,7 @@ use native.Mathlib.Omega.{arith}
 -- the flags of the three rules, over what the line, the list and the standing say
 abbrev three : Bool → List Bool → Bool → Bool → Bool → List Bool
 three cxl ok absent cancelled any =
-    set (set (set (replicate 137 false)
+    set (set (set (replicate codeCount false)
     1 (cxl && getD ok 4 false && getD ok 2 false && absent))
     2 (cxl && getD ok 4 false && getD ok 2 false && cancelled))
     6 (cxl && getD ok 6 false && not any)
@@ -39,8 +40,8 @@ returns c =
     let cancelled = (c .before .before .before .is-cancelled) .ensures ∙ ap isCancelled stands in
     let any = ap (λ (f : LeiFit). f .any) fit in
     let found = three ((c .before .before .before .before .before .same) .result) ((c .before .before .before .before .before .before .before .before .good-cells) .result) ((c .before .before .before .before .is-absent) .result) ((c .before .before .before .is-cancelled) .result) ((c .before .before .before .before .before .before .before .before .before .before .before .before .args) .submitting .any) in
-    let rules : Filled 72 (flags k) found = record { long = refl; front = (λ i. take 72 (three (cxl i) (ok i) (absent i) (cancelled i) (any i))) ∙ not-new k ((c .before .before .before .before .before .before .before .before .before .before .before .before .pre) .1) } in
-    filled-all (filled-more rules (formFindings l) 65 (findings-count l) (omega arith) ((c .place) .ensures ∙ ap (put found 72) ((c .before .before .before .before .before .before .before .before .before .before .other-findings) .ensures)))
+    let rules : Filled ruleCount (flags k) found = record { long = refl; front = (λ i. take ruleCount (three (cxl i) (ok i) (absent i) (cancelled i) (any i))) ∙ not-new k ((c .before .before .before .before .before .before .before .before .before .before .before .before .pre) .1) } in
+    filled-all (filled-more rules (formFindings l) 65 (findings-count l) (omega arith) ((c .place) .ensures ∙ ap (put found ruleCount) ((c .before .before .before .before .before .before .before .before .before .before .other-findings) .ensures)))
 
 pub unless-new-spec : {M : Type 1} → statement M
 unless-new-spec =
