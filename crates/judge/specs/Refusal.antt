@@ -18,7 +18,7 @@ use Rattle.verdict.specs.Codes.{codeCount}
 use Rattle.verdict.specs.Verdict.{codesFound}
 use Rattle.register.specs.Frame as register
 
--- the 137 flags of a call: 72 rules, 65 forms
+-- the 138 flags of a call: 73 rules, 65 forms
 unfoldable pub allFlags : Call → List Bool
 allFlags c = flags c ++ formFindings (c .line)
 
