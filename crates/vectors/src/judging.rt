@@ -107,9 +107,9 @@ fn wide(code: u16) -> u64 {
 
 // An entry of a findings buffer one entry longer than the codes, after they are listed.
 fn entry(flags: &[bool; CODE_COUNT], k: usize) -> u64 {
-    let mut findings = [STAYS; 138];
+    let mut findings = [STAYS; CODE_COUNT + 1];
     verdict::list(flags, &mut findings);
-    if k < 138 {
+    if k < CODE_COUNT + 1 {
         return wide(findings[k]);
     }
     UNKNOWN
@@ -117,9 +117,9 @@ fn entry(flags: &[bool; CODE_COUNT], k: usize) -> u64 {
 
 // An entry of one that is too short by one.
 fn short_entry(flags: &[bool; CODE_COUNT], k: usize) -> u64 {
-    let mut findings = [STAYS; 136];
+    let mut findings = [STAYS; CODE_COUNT - 1];
     verdict::list(flags, &mut findings);
-    if k < 136 {
+    if k < CODE_COUNT - 1 {
         return wide(findings[k]);
     }
     UNKNOWN
