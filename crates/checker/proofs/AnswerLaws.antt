@@ -10,7 +10,7 @@ use lib.Dec.{eqb}
 use Rattle.facts.specs.Call.{Call}
 use Rattle.verdict.specs.declared.Verdict.{Verdict}
 use Rattle.verdict.specs.Verdict.{verdictOf, refusedBy}
-use Rattle.verdict.specs.Codes.{codes}
+use Rattle.verdict.specs.Codes.{codes, codeCount}
 use Rattle.verdict.proofs.ListLaws.{pick-short}
 use Rattle.verdict.proofs.Promises.{code-count}
 use Rattle.judge.specs.Refusal.{allFlags, refusal}
@@ -23,7 +23,7 @@ use Rattle.checker.proofs.DecimalLaws.{spaced-join, printed-short}
 -- n is how many codes are listed, and no more than there are
 pub record Counted (o : Outcome) : Type 0 where
   pub count-is : o .verdict .count ≡ length (o .listed)
-  pub few : length (o .listed) ≤ 137
+  pub few : length (o .listed) ≤ codeCount
 
 pub outcome-counted : (c : Call) (room : ℕ) → Counted (outcome c room)
 unfolding outcome verdictOf refusedBy

@@ -10,6 +10,7 @@ use lib.ListN.{length, length-append}
 use borrow.Author.Tests.{lt-ltb, le-ltb, leb-true, leb-false}
 use Rattle.text.proofs.Bools.{by-test}
 use Rattle.io.specs.Digits.{digits, Fewest, glyph}
+use Rattle.verdict.specs.Codes.{codeCount}
 use Rattle.buffer.specs.Kept.{Kept}
 use Rattle.buffer.proofs.KeptLaws.{Joins, keep-then}
 use Rattle.checker.specs.Printed.{digitsOf, decimal, spaced, printed, longest}
@@ -79,7 +80,7 @@ unfolding spaced
 spaced-short [] = omega arith
 spaced-short (n ∷ ns) = rw length-append (omega (arith, digits-short 20 n, spaced-short ns))
 
-pub printed-short : (number answer count : ℕ) (codes : List ℕ) → length codes ≤ 137 → length (printed number answer count codes) ≤ longest
+pub printed-short : (number answer count : ℕ) (codes : List ℕ) → length codes ≤ codeCount → length (printed number answer count codes) ≤ longest
 unfolding printed
 printed-short number answer count codes h =
     simp length-append (omega (arith, digits-short 20 number, spaced-short (answer ∷ count ∷ codes)))

@@ -11,6 +11,7 @@ use lib.Seq.{take-all}
 use borrow.Author.Tests.{lt-ltb, leb-true, leb-false}
 use Rattle.text.specs.FirstFrom.{firstFrom}
 use Rattle.text.proofs.Bools.{by-test}
+use Rattle.verdict.specs.Codes.{codeCount}
 use Rattle.judge.specs.Refusal.{early}
 use Rattle.judge.specs.Outcome.{refusedOutcome}
 use Rattle.judge.proofs.Cases.{out-early}
@@ -34,15 +35,15 @@ stops n (false ∷ tests) e = stops (suc n) tests e
 
 -- the tests of refusals 1 to 8 do not read the line
 abbrev first-eight : List ℕ → List Bool
-first-eight register = take 8 (early (called [] register) 137)
+first-eight register = take 8 (early (called [] register) codeCount)
 
 refused-early : (s register : List ℕ) → 4096 < length s
     → judged s register ≡ refusedOutcome (called [] register) (firstFrom 1 (first-eight register ++ (true ∷ [])))
 unfolding judged
 refused-early s register h =
-    let e : early (called s register) 137 ≡ first-eight register ++ (true ∷ []) =
+    let e : early (called s register) codeCount ≡ first-eight register ++ (true ∷ []) =
     ap (λ (t : Bool). first-eight register ++ (t ∷ [])) (lt-ltb 4096 (length s) h) in
-    out-early (called s register) 137 (λ z. stops 0 (first-eight register) (rw e at z))
+    out-early (called s register) codeCount (λ z. stops 0 (first-eight register) (rw e at z))
     ∙ ap (λ (l : List Bool). refusedOutcome (called [] register) (firstFrom 1 l)) e
 
 -- two lines that are both too long

@@ -1,10 +1,11 @@
 -- What is printed for a line: its number, the answer, n and the codes, in decimal with single spaces, then LF.
-use Prim.Native.Nat.{ℕ, zero, suc, _+_, _/_, _%_, _≤_}
+use Prim.Native.Nat.{ℕ, zero, suc, _+_, _*_, _/_, _%_, _≤_}
 use mathlib.Core.Path.{_≡_}
 use mathlib.Core.Bool.{cond}
 use mathlib.Core.List.{List, [], _∷_, _++_}
 use lib.Dec.{ltb}
 use lib.ListN.{length, take}
+use Rattle.verdict.specs.Codes.{codeCount}
 use Rattle.judge.specs.Outcome.{Outcome}
 
 -- the digits of a number that has at most f
@@ -28,9 +29,9 @@ printed number answer count codes = decimal number ++ (spaced (answer ∷ count 
 abbrev pub answerTo : ℕ → Outcome → List ℕ
 answerTo number o = printed number (o .verdict .answer) (o .verdict .count) (o .listed)
 
--- what `printed` takes at most: 140 numbers of up to 20 digits, each but the first behind a space, and LF
+-- what `printed` takes at most: the three and a number for each code, of up to 20 digits and each but the first behind a space, and LF
 abbrev pub longest : ℕ
-longest = 2940
+longest = 21 * (3 + codeCount)
 
 -- The outcome of a line stands printed in the first n bytes of a buffer that has room for the longest, and its register is kept.
 pub record Answered (number : ℕ) (o : Outcome) (before after : List ℕ) (n : ℕ) (register : List ℕ) : Type 0 where

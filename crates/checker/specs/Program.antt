@@ -3,13 +3,14 @@
 use Prim.Native.Nat.{ℕ, _+_}
 use mathlib.Core.List.{List, [], _∷_, _++_}
 use lib.ListN.{drop}
+use Rattle.verdict.specs.Codes.{codeCount}
 use Rattle.judge.specs.Outcome.{Outcome, outcome}
 use Rattle.checker.specs.Setting.{emptyRegister, called}
 use Rattle.checker.specs.Lines.{linesOf}
 use Rattle.checker.specs.Printed.{answerTo}
 
 unfoldable pub judged : List ℕ → List ℕ → Outcome
-judged line register = outcome (called line register) 137
+judged line register = outcome (called line register) codeCount
 
 unfoldable pub answers : ℕ → List ℕ → List (List ℕ) → List ℕ
 answers number register [] = []

@@ -22,6 +22,7 @@ use lines::bare;
 use lines::line_end;
 use print::keep_answer;
 use print::listed;
+use verdict::CODE_COUNT;
 
 // Mark TRN, version 1, no row used, room for 4 rows of 74 bytes.
 fn empty_register() -> [u8; 305]
@@ -39,7 +40,7 @@ fn empty_register() -> [u8; 305]
 fn answer(line: &[u8], register: &mut [u8], number: u64, out: &mut [u8]) -> usize
     ensures { λ r. ⌜ Answered number (judged (now (line .entry)) (now (register .entry))) (now (out .entry)) (now (out .exit)) r (now (register .exit)) ⌝ }
 {
-    let mut findings = [0u16; 137];
+    let mut findings = [0u16; CODE_COUNT];
     let verdict = judge::judge(
         line,
         b"LEI\x01\x00\x00\x00\x00\x00",
@@ -148,8 +149,8 @@ fn broken_off(number: u64, message: &[u8]) -> Place
     }
 }
 
-// 140 numbers of up to 20 digits, each but the first behind a space, and LF: no answer is longer.
-const LONGEST: usize = 2940;
+// Its number, the answer, n and the codes, of up to 20 digits each and all but the first behind a space, and LF: no answer is longer.
+const LONGEST: usize = 21 * (3 + CODE_COUNT);
 
 fn take_chunk(chunk: &[u8], line: &mut [u8], register: &mut [u8], place: Place) -> Place
     requires { ⌜ length (now line) ≡ room ⌝ }
