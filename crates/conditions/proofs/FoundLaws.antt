@@ -15,7 +15,7 @@ use Rattle.facts.specs.Call.{Call}
 use Rattle.facts.specs.Rules.{Rule, rules, given, flags}
 use Rattle.rules.proofs.InOrder.{rules-in-order}
 use Rattle.verdict.specs.declared.Verdict.{Verdict}
-use Rattle.verdict.specs.Codes.{ruleCodes, formCodes, codes, codeCount}
+use Rattle.verdict.specs.Codes.{ruleCodes, formCodes, codes, ruleCount, codeCount}
 use Rattle.verdict.specs.Verdict.{bit, pick, codesFound, verdictOf}
 use Rattle.verdict.specs.Findings.{over}
 use Rattle.verdict.specs.Counted.{flagsSet, times}
@@ -87,7 +87,7 @@ module _ (c : Call) where
   pub rule-once : (r : Rule) → Among r rules → times (r .code) (codesFound (allFlags c)) ≡ bit (given c r)
   unfolding codes allFlags flags
   rule-once r m =
-      let within : place m < 72 = place-within m in
+      let within : place m < ruleCount = place-within m in
       let code-at : getD codes (place m) 0 ≡ r .code =
       ap (λ (t : List ℕ). getD (t ++ formCodes) (place m) 0) (sym rules-in-order)
       ∙ List·getD-append (map (λ (q : Rule). q .code) rules) formCodes 0 (place m) within
@@ -103,15 +103,15 @@ module _ (c : Call) where
   form-once f h k =
       let m : Among f (countFrom 1 65) = among-counted 1 65 f h (omega arith) in
       let within : place m < 65 = place-within m in
-      let code-at : getD codes (72 + place m) 0 ≡ 1000 + f =
+      let code-at : getD codes (ruleCount + place m) 0 ≡ 1000 + f =
       getD-append-add ruleCodes formCodes (place m) 0
       ∙ ap (λ (t : List ℕ). getD t (place m) 0) form-codes
       ∙ mapped-at (λ g. 1000 + g) 0 m
       in
-      let flag-at : getD (allFlags c) (72 + place m) false ≡ malformed c f =
+      let flag-at : getD (allFlags c) (ruleCount + place m) false ≡ malformed c f =
       getD-append-add (map (given c) rules) (formFindings (c .line)) (place m) false ∙ mapped-at (malformed c) false m
       in
-      ap (λ n. times n (codesFound (allFlags c))) (sym code-at) ∙ found-once (allFlags c) flag-count (72 + place m) (omega arith) ∙ ap bit flag-at
+      ap (λ n. times n (codesFound (allFlags c))) (sym code-at) ∙ found-once (allFlags c) flag-count (ruleCount + place m) (omega arith) ∙ ap bit flag-at
 
   pub none-other :
       (x : ℕ) → ((r : Rule) → Among r rules → x ≡ r .code → ⊥) → ((f : ℕ) → 1 ≤ f → f ≤ 65 → x ≡ 1000 + f → ⊥)

@@ -3,7 +3,7 @@ use mathlib.Core.Path.{_≡_, _∙_, refl, sym, ap}
 use mathlib.Core.Bool.{Bool, true, false, not, _&&_, true≢false}
 use mathlib.Core.Logic.{_⊎_, inl, inr, ⊎-elim}
 use mathlib.Core.List.{List, [], _∷_}
-use Prim.Native.Nat.{ℕ, suc, _≤_, _<_}
+use Prim.Native.Nat.{ℕ, suc, _+_, _≤_, _<_}
 use native.Mathlib.Omega.{arith}
 use borrow.Author.Tests.{not-true, not-false, leb-true, eqb-true}
 use lib.Dec.{leb, lit<}
@@ -24,7 +24,7 @@ use Rattle.forms.specs.declared.tables.Form.the-variants.{Reference, Lei}
 use Rattle.register.proofs.PairLaws.{Shaped}
 use Rattle.facts.specs.Call.{Call}
 use Rattle.facts.specs.Rules.{isNew, isCxl, good, goodCells, flags}
-use Rattle.verdict.specs.Codes.{codes, codeCount}
+use Rattle.verdict.specs.Codes.{codes, ruleCount, codeCount}
 use Rattle.verdict.specs.Verdict.{bit, codesFound}
 use Rattle.verdict.specs.Counted.{times}
 use Rattle.verdict.proofs.OrderLaws.{pick-once}
@@ -123,15 +123,15 @@ module _ (c : Call) (clear : clean c ≡ true) where
   -- it is NEW or CXL, and its pair has the right shape
   pub clean-known : Known (statusOf (cell (c .line) 1))
   unfolding allFlags flags formFindings
-  clean-known = status-found (statusOf (cell (c .line) 1)) (cell (c .line) 1) (no-flag 72 (lit< tt))
+  clean-known = status-found (statusOf (cell (c .line) 1)) (cell (c .line) 1) (no-flag ruleCount (lit< tt))
 
   pub clean-4 : good (c .line) 4 ≡ true
   unfolding allFlags flags formFindings
-  clean-4 = good-4 (c .line) ∙ ap not (no-flag 75 (lit< tt))
+  clean-4 = good-4 (c .line) ∙ ap not (no-flag (ruleCount + 3) (lit< tt))
 
   pub clean-2 : good (c .line) 2 ≡ true
   unfolding allFlags flags formFindings
-  clean-2 = good-2 (c .line) ∙ ap not (no-flag 73 (lit< tt))
+  clean-2 = good-2 (c .line) ∙ ap not (no-flag (ruleCount + 1) (lit< tt))
 
   pub clean-shaped : Shaped (cell (c .line) 4) (cell (c .line) 2)
   clean-shaped = good-shaped (c .line) clean-known clean-4 clean-2

@@ -7,6 +7,7 @@ use Rattle.text.specs.Ascii.{ascii}
 use Rattle.register.specs.Pair.{pairBytes}
 use Rattle.facts.specs.Call.{Call, call}
 use Rattle.verdict.specs.declared.Verdict.{Verdict}
+use Rattle.verdict.specs.Codes.{codeCount}
 use Rattle.judge.specs.Outcome.{Outcome, outcome}
 use Rattle.conditions.specs.Condition3.{Answered}
 
@@ -69,14 +70,14 @@ history =
 
 pub record Afternoon : Type 0 where
   -- cancelled before it was reported: 024
-  pub too-early : outcome (at cancels none) 137 ≡ leaves (finding 2) (24 ∷ []) none
-  pub reported : outcome (at reports none) 137 ≡ leaves accepting [] (holding 1)
+  pub too-early : outcome (at cancels none) codeCount ≡ leaves (finding 2) (24 ∷ []) none
+  pub reported : outcome (at reports none) codeCount ≡ leaves accepting [] (holding 1)
   -- reported twice: 023
-  pub twice : outcome (at reports (holding 1)) 137 ≡ leaves (finding 1) (23 ∷ []) (holding 1)
-  pub cancelled : outcome (at cancels (holding 1)) 137 ≡ leaves accepting [] (holding 2)
+  pub twice : outcome (at reports (holding 1)) codeCount ≡ leaves (finding 1) (23 ∷ []) (holding 1)
+  pub cancelled : outcome (at cancels (holding 1)) codeCount ≡ leaves accepting [] (holding 2)
   -- cancelled twice: 025
-  pub twice-cancelled : outcome (at cancels (holding 2)) 137 ≡ leaves (finding 4) (25 ∷ []) (holding 2)
+  pub twice-cancelled : outcome (at cancels (holding 2)) codeCount ≡ leaves (finding 4) (25 ∷ []) (holding 2)
   -- reported again, the same day
-  pub again : outcome (at reports (holding 2)) 137 ≡ leaves accepting [] (holding 1)
+  pub again : outcome (at reports (holding 2)) codeCount ≡ leaves accepting [] (holding 1)
   -- another pair: no room
-  pub no-room : outcome (at other (holding 1)) 137 ≡ leaves (refusing 11) [] (holding 1)
+  pub no-room : outcome (at other (holding 1)) codeCount ≡ leaves (refusing 11) [] (holding 1)
