@@ -278,7 +278,7 @@ static void findings_are_listed(void) {
     const char *group = "findings: bits, codes, later entries, register";
     static const struct finding absent[1] = {{24, 1}};
     static const struct finding absent_and_entity[2] = {{24, 1}, {60, 6}};
-    static const struct finding first[1] = {{1001, 72}};
+    static const struct finding first[1] = {{1001, 73}};
     struct call c = good_call();
     cxl_line(&c, "R1");
     must_find(&c, absent, 1, group);
@@ -293,7 +293,7 @@ static void findings_are_listed(void) {
     for (uint16_t f = 2; f <= 65; f++) {
         cells[f] = "\x80";
         most[count].code = (uint16_t)(1000 + f);
-        most[count++].bit = (uint16_t)(71 + f);
+        most[count++].bit = (uint16_t)(72 + f);
     }
     line_of(&c, cells);
     must_find(&c, most, count, group);
@@ -324,7 +324,7 @@ static void lists_are_framed(void) {
         c.list[i].len = 10;
         must_refuse(c, i + 1, group);
         c.list[i].len = 9;
-        c.room = 136;
+        c.room = BOANHETRI_CODES - 1;
         must_refuse(c, 8, group);
     }
     printf("%s\n", group);
@@ -376,7 +376,7 @@ static void moment_is_real(void) {
         struct call c = good_call();
         c.day = real[i];
         c.micro = 86399999999;
-        c.room = 136;
+        c.room = BOANHETRI_CODES - 1;
         must_refuse(c, 8, group);
         c.micro = 86400000000;
         must_refuse(c, 7, group);
@@ -387,22 +387,22 @@ static void moment_is_real(void) {
 }
 
 static void buffer_has_room(void) {
-    const char *group = "refusal 8: an entry too few; 137 are enough";
+    const char *group = "refusal 8: an entry too few; 138 are enough";
     struct call c = good_call();
     struct bytes reg = c.reg;
     expect_row(&reg, "R1");
     c.room = 0;
     must_refuse(c, 8, group);
-    c.room = 136;
-    must_refuse(c, 8, group);
     c.room = 137;
+    must_refuse(c, 8, group);
+    c.room = 138;
     must_accept(&c, &reg, group);
     printf("%s\n", group);
 }
 
 static void line_is_short(void) {
     const char *group = "refusal 9: 4,097 bytes; 4,096 are read";
-    static const struct finding first[1] = {{1001, 72}};
+    static const struct finding first[1] = {{1001, 73}};
     struct call c = good_call();
     first_cell(&c, "x");
     while (c.line.len < 4096) {
@@ -439,7 +439,7 @@ static void refusals_have_an_order(void) {
     }
     c.reg.len = 8;
     c.day = 20250229;
-    c.room = 136;
+    c.room = BOANHETRI_CODES - 1;
     memset(c.line.at, 'x', sizeof c.line.at);
     c.line.len = 4097;
     for (uint16_t i = 0; i < LISTS; i++) {
