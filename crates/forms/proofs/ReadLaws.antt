@@ -11,6 +11,9 @@ use Rattle.text.specs.Number.{countFrom}
 use Rattle.cells.specs.Cells.{cell}
 use Rattle.forms.specs.declared.findings.Status.{Status}
 use Rattle.forms.specs.declared.findings.Status.the-variants.{New}
+use Rattle.forms.specs.declared.tables.Form.{Form}
+use Rattle.forms.specs.declared.tables.Form.the-variants.{NoTerms}
+use Rattle.forms.specs.Forms.{holds}
 use Rattle.forms.specs.Findings.{statusOf, formFinding, formFindings}
 use Rattle.forms.specs.Read.{newForms}
 
@@ -30,11 +33,17 @@ set-on flags k group i h =
     rw (e, add-one, drop-cons group i false h)
 
 -- the findings of a line whose status is known
-pub by-status : (line : List ℕ) (status : Status) → statusOf (cell line 1) ≡ status → map (λ f. formFinding status f (cell line f)) (countFrom 1 65) ≡ formFindings line
+pub by-status : (line : List ℕ) (status : Status) → statusOf (cell line 1) ≡ status → map (λ f. formFinding status (cell line 47) f (cell line f)) (countFrom 1 65) ≡ formFindings line
 unfolding formFindings
-by-status line status e = sym (λ i. map (λ f. formFinding (e i) f (cell line f)) (countFrom 1 65))
+by-status line status e = sym (λ i. map (λ f. formFinding (e i) (cell line 47) f (cell line f)) (countFrom 1 65))
 
 pub all-new : (line : List ℕ) → statusOf (cell line 1) ≡ New
     → sets (sets (sets (sets (sets (replicate 65 false) 0 (newForms line 1)) 13 (newForms line 14)) 26 (newForms line 27)) 39 (newForms line 40)) 52 (newForms line 53)
     ≡ formFindings line
 all-new line e = by-status line New e
+
+-- a blank cell 47 leaves 49 no form
+pub terms-if : (none : Bool) (form : Form) (s : List ℕ) → not none && holds form s ≡ holds (cond none NoTerms form) s
+unfolding holds
+terms-if true form s = refl
+terms-if false form s = refl

@@ -22,9 +22,10 @@ found New first new cxl form s = cond (blank s) new (not (holds form s))
 found Cancellation first new cxl form s = cond cxl (blank s || not (holds form s)) false
 found Neither first new cxl form s = first
 
-unfoldable pub formFinding : Status → ℕ → List ℕ → Bool
-formFinding status f s = found status (eqb f 1) (isOneOf newNeeds f) (isOneOf cxlNeeds f) (formOf f) s
+-- of cell f, where cell 47 is `underlying`
+unfoldable pub formFinding : Status → List ℕ → ℕ → List ℕ → Bool
+formFinding status underlying f s = found status (eqb f 1) (isOneOf newNeeds f) (isOneOf cxlNeeds f) (formOf underlying f) s
 
 -- the 65 flags of a line, cell by cell
 unfoldable pub formFindings : List ℕ → List Bool
-formFindings line = map (λ f. formFinding (statusOf (cell line 1)) f (cell line f)) (countFrom 1 65)
+formFindings line = map (λ f. formFinding (statusOf (cell line 1)) (cell line 47) f (cell line f)) (countFrom 1 65)

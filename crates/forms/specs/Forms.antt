@@ -1,20 +1,23 @@
 -- Cell forms: what each form asks, and which form each cell has. Blank is no matter of the form.
 use Prim.Native.Nat.{ℕ, zero, suc}
 use Prim.Native.String.{String}
-use mathlib.Core.Bool.{Bool, not, _&&_, _||_}
+use mathlib.Core.Bool.{Bool, false, cond, not, _&&_, _||_}
 use mathlib.Core.List.{List, [], _∷_}
 use lib.Dec.{eqb}
 use lib.ListN.{getD, drop}
 use Rattle.text.specs.Ascii.{ascii}
 use Rattle.text.specs.Class.{runOf}
 use Rattle.text.specs.declared.classes.Class.the-variants.{Capital, CapitalDigit, Alphanumeric, Printable}
-use Rattle.text.specs.Word.{same, startsWith, oneOf}
+use Rattle.text.specs.Word.{blank, same, startsWith, oneOf}
 use Rattle.utf8.specs.Abnf.{pointsWithin}
 use Rattle.calendar.specs.Dates.{dateOf, isDate}
 use Rattle.calendar.specs.Moments.{whenOf, isWhen}
 use Rattle.ident.specs.Codes.{leiShaped, micShaped, isinRight}
 use Rattle.ident.specs.Party.{allowed7, allowed12, allowed57, allowed59, partyOf, isMalformed}
 use Rattle.ident.specs.declared.parties.Allowed.{Allowed}
+use Rattle.baskets.specs.Underlying.{underlyingOf, isUnderlying, termsFit}
+use Rattle.baskets.specs.declared.legs.Kind.{Kind}
+use Rattle.baskets.specs.declared.legs.Kind.the-variants.{Swap, Other, Malformed}
 use Rattle.amount.specs.Decimal.{isDecimal}
 use Rattle.amount.specs.Signed.{signedOf, signedKind}
 use Rattle.amount.specs.Price.{priceOf, priceKind}
@@ -22,7 +25,7 @@ use Rattle.amount.specs.Quantity.{quantityOf, quantityKind}
 use Rattle.forms.specs.declared.findings.Status.{Status}
 use Rattle.forms.specs.declared.findings.Status.the-variants.{New, Cancellation, Neither}
 use Rattle.forms.specs.declared.tables.Form.{Form}
-use Rattle.forms.specs.declared.tables.Form.the-variants.{ReportStatus, Reference, Lei, Truth, Counterparty, Decider, Country, Name, Date, Moment, Capacity, Quantity, Currency, Change, Price, Amount, Venue, SignedAmount, ComplexTrade, Isin, InstrumentName, Cfi, SecondCurrency, Multiplier, Swap, Printed, OptionKind, OptionStyle, Delivery, Investor, Executor, Waiver, ShortSale, PostTrade}
+use Rattle.forms.specs.declared.tables.Form.the-variants.{ReportStatus, Reference, Lei, Truth, Counterparty, Decider, Country, Name, Date, Moment, Capacity, Quantity, Currency, Change, Price, Amount, Venue, SignedAmount, ComplexTrade, Isin, InstrumentName, Cfi, SecondCurrency, Multiplier, Underlying, Printed, SwapTerms, OtherTerms, NoTerms, OptionKind, OptionStyle, Delivery, Investor, Executor, Waiver, ShortSale, PostTrade}
 
 -- the paper's word for each status of a line; what is neither has none
 abbrev pub statusWord : Status → List ℕ
@@ -85,22 +88,35 @@ holds SignedAmount s = not (eqb (signedKind (signedOf 5 s)) 0)
 holds Multiplier s = isDecimal 18 17 19 s
 -- 41: 2 letters, 9 of A-Z 0-9, digit, right by the ISO 6166 check
 holds Isin s = isinRight s
--- 47: SWAP: or OTHR:, then up to 400 printable ASCII; 48, 49 up to 400 such
-holds Swap s = (startsWith (ascii "SWAP:") s || startsWith (ascii "OTHR:") s) && runOf Printable 0 400 (drop 5 s)
+-- 47: SWAP: or OTHR:, then nothing or legs. 48: up to 400 printable ASCII
+holds Underlying s = isUnderlying (underlyingOf s .kind)
 holds Printed s = runOf Printable 1 400 s
+-- 49: legs of terms, as SWAP: has them or as OTHR: does; nothing
+holds SwapTerms s = termsFit Swap s
+holds OtherTerms s = termsFit Other s
+holds NoTerms s = false
 
--- the form of each cell, ten cells a line
-abbrev pub formsOfCells : List Form
-formsOfCells =
+-- the form of 49 by what 47 holds: as 48 where that is malformed
+abbrev pub termsOfKind : Kind → Form
+termsOfKind Swap = SwapTerms
+termsOfKind Other = OtherTerms
+termsOfKind Malformed = Printed
+
+abbrev pub termsBy : List ℕ → Form
+termsBy underlying = cond (blank underlying) NoTerms (termsOfKind (underlyingOf underlying .kind))
+
+-- the form of each cell, ten cells a line; `underlying` is what cell 47 holds
+abbrev pub formsOfCells : List ℕ → List Form
+formsOfCells underlying =
     ReportStatus ∷ Reference ∷ Reference ∷ Lei ∷ Truth ∷ Lei ∷ Counterparty ∷ Country ∷ Name ∷ Name ∷
     Date ∷ Decider ∷ Name ∷ Name ∷ Date ∷ Counterparty ∷ Country ∷ Name ∷ Name ∷ Date ∷
     Decider ∷ Name ∷ Name ∷ Date ∷ Truth ∷ Lei ∷ Lei ∷ Moment ∷ Capacity ∷ Quantity ∷
     Currency ∷ Change ∷ Price ∷ Currency ∷ Amount ∷ Venue ∷ Country ∷ SignedAmount ∷ Currency ∷ ComplexTrade ∷
-    Isin ∷ InstrumentName ∷ Cfi ∷ Currency ∷ SecondCurrency ∷ Multiplier ∷ Swap ∷ Printed ∷ Printed ∷ OptionKind ∷
+    Isin ∷ InstrumentName ∷ Cfi ∷ Currency ∷ SecondCurrency ∷ Multiplier ∷ Underlying ∷ Printed ∷ termsBy underlying ∷ OptionKind ∷
     Price ∷ Currency ∷ OptionStyle ∷ Date ∷ Date ∷ Delivery ∷ Investor ∷ Country ∷ Executor ∷ Country ∷
     Waiver ∷ ShortSale ∷ PostTrade ∷ Truth ∷ Truth ∷ []
 
 -- the form of cell f, counted from 1
-unfoldable pub formOf : ℕ → Form
-formOf zero = ReportStatus
-formOf (suc f) = getD formsOfCells f ReportStatus
+unfoldable pub formOf : List ℕ → ℕ → Form
+formOf underlying zero = ReportStatus
+formOf underlying (suc f) = getD (formsOfCells underlying) f ReportStatus

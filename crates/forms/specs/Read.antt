@@ -7,6 +7,7 @@ use Rattle.cells.specs.Cells.{cell}
 use Rattle.calendar.specs.Dates.{dateOf}
 use Rattle.calendar.specs.Moments.{whenOf}
 use Rattle.ident.specs.Party.{allowed7, allowed12, allowed57, allowed59, partyOf}
+use Rattle.baskets.specs.Underlying.{underlyingOf}
 use Rattle.amount.specs.Price.{priceOf}
 use Rattle.amount.specs.Quantity.{quantityOf}
 use Rattle.forms.specs.declared.findings.Status.the-variants.{New}
@@ -31,8 +32,9 @@ readOf line =
       moment = whenOf (cell line 28);
       quantity = quantityOf (cell line 30);
       price = priceOf (cell line 33);
+      underlying = underlyingOf (cell line 47);
     }
 
 -- the findings of thirteen cells of a NEW line, from cell k on
 abbrev pub newForms : List ℕ → ℕ → List Bool
-newForms line k = map (λ f. formFinding New f (cell line f)) (countFrom k 13)
+newForms line k = map (λ f. formFinding New (cell line 47) f (cell line f)) (countFrom k 13)

@@ -1,7 +1,9 @@
 // What the forms ask of a cell that is not blank, where a formula is longer than its place allows.
 ghost use mathlib.Core.Path.{_≡_};
-ghost use Rattle.forms.specs.Forms.{holds};
+ghost use Rattle.baskets.specs.Underlying.{underlyingOf};
+ghost use Rattle.forms.specs.Forms.{holds, termsOfKind, termsBy};
 use crate::tables::Form;
+use baskets::Kind;
 use text::Class;
 
 pub fn is_status(s: &[u8]) -> bool
@@ -16,12 +18,22 @@ pub fn is_truth(s: &[u8]) -> bool
     text::same(s, b"TRUE") | text::same(s, b"FALSE")
 }
 
-// Printable bytes behind SWAP: or OTHR:.
-pub fn is_swap(s: &[u8]) -> bool
-    ensures { λ r. ⌜ r ≡ holds Form.Swap (now (s .entry)) ⌝ }
+fn terms_of_kind(s: &[u8], kind: Kind) -> bool
+    ensures { λ r. ⌜ r ≡ holds (termsOfKind kind) (now (s .entry)) ⌝ }
 {
-    (text::starts_with(s, b"SWAP:") | text::starts_with(s, b"OTHR:"))
-        & text::run_of(text::rest(s, 5), Class::Printable, 0, 400)
+    match kind {
+        Kind::Swap => baskets::terms_fit(s, kind),
+        Kind::Other => baskets::terms_fit(s, kind),
+        Kind::Malformed => text::run_of(s, Class::Printable, 1, 400),
+    }
+}
+
+// Cell 49, by the cell 47 and its kind.
+pub fn is_terms(s: &[u8], underlying: &[u8], kind: Kind) -> bool
+    requires { ⌜ kind ≡ underlyingOf (now underlying) .kind ⌝ }
+    ensures { λ r. ⌜ r ≡ holds (termsBy (now (underlying .entry))) (now (s .entry)) ⌝ }
+{
+    (underlying.len() != 0) & terms_of_kind(s, kind)
 }
 
 // Three capitals behind FX: or INTRST:.

@@ -11,7 +11,7 @@ ghost use Rattle.forms.specs.Read.{readOf, newForms};
 use crate::findings::Status;
 use crate::meanings::is_second_currency;
 use crate::meanings::is_status;
-use crate::meanings::is_swap;
+use crate::meanings::is_terms;
 use crate::meanings::is_truth;
 use crate::read::Read;
 use text::Class;
@@ -190,6 +190,8 @@ fn instrument<'a, 't>(
     let c50 = cells::cell(line, starts, ends, 50);
     let c51 = cells::cell(line, starts, ends, 51);
     let c52 = cells::cell(line, starts, ends, 52);
+    let underlying = read.underlying;
+    let kind47 = underlying.kind;
     [
         optional(c40, text::run_of(c40, Class::Alphanumeric, 1, 35)),
         optional(c41, ident::isin_right(c41)),
@@ -198,9 +200,9 @@ fn instrument<'a, 't>(
         optional(c44, text::run_of(c44, Class::Capital, 3, 3)),
         optional(c45, is_second_currency(c45)),
         optional(c46, amount::is_decimal(c46, 18, 17, 19)),
-        optional(c47, is_swap(c47)),
+        optional(c47, baskets::is_underlying(kind47)),
         optional(c48, text::run_of(c48, Class::Printable, 1, 400)),
-        optional(c49, text::run_of(c49, Class::Printable, 1, 400)),
+        optional(c49, is_terms(c49, c47, kind47)),
         optional(c50, text::one_of(c50, b"PUTOCALLOTHR", 4)),
         optional(c51, (amount::price_kind(amount::parse_price(c51)) != 0)),
         optional(c52, text::run_of(c52, Class::Capital, 3, 3)),

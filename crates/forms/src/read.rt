@@ -4,11 +4,12 @@ ghost use Rattle.cells.specs.Split.{Tabled};
 ghost use Rattle.forms.specs.Read.{readOf};
 use amount::Price;
 use amount::Quantity;
+use baskets::Underlying;
 use calendar::Date;
 use calendar::When;
 use ident::Party;
 
-// The parties of 7, 12, 16, 21, 57 and 59, the dates, the moment of 28, the quantity of 30, the price of 33.
+// The parties of 7, 12, 16, 21, 57 and 59, the dates, the moment of 28, the quantity of 30, the price of 33, the legs of 47.
 pub struct Read {
     pub buyer: Party,
     pub buyer_for: Party,
@@ -25,6 +26,7 @@ pub struct Read {
     pub moment: When,
     pub quantity: Quantity,
     pub price: Price,
+    pub underlying: Underlying,
 }
 
 pub fn read_cells<'a, 't>(line: &'a [u8], starts: &'t [usize; 65], ends: &'t [usize; 65]) -> Read
@@ -47,5 +49,6 @@ pub fn read_cells<'a, 't>(line: &'a [u8], starts: &'t [usize; 65], ends: &'t [us
         moment: calendar::parse_moment(cells::cell(line, starts, ends, 28)),
         quantity: amount::parse_quantity(cells::cell(line, starts, ends, 30)),
         price: amount::parse_price(cells::cell(line, starts, ends, 33)),
+        underlying: baskets::parse_underlying(cells::cell(line, starts, ends, 47)),
     }
 }

@@ -49,9 +49,13 @@ pub enum Form {
     // 46
     Multiplier,
     // 47
-    Swap,
-    // 48, 49
+    Underlying,
+    // 48, and 49 where 47 is malformed
     Printed,
+    // 49 where 47 is SWAP:, where it is OTHR:, and where it is blank
+    SwapTerms,
+    OtherTerms,
+    NoTerms,
     // 50
     OptionKind,
     // 53
