@@ -1,11 +1,11 @@
-//! The 137 codes and the eleven refusals, and where their words stand.
+//! The 138 codes and the eleven refusals, and where their words stand.
 
 /// The rule codes (CON-...) in rising order.
-pub const RULES: [u16; 72] = [
+pub const RULES: [u16; 73] = [
     23, 24, 25, 30, 40, 41, 60, 70, 71, 72, 73, 74, 80, 110, 120, 121, 122, 123, 150, 160, 161, 162, 163, 164, 170,
     200, 210, 211, 212, 213, 240, 251, 260, 270, 280, 281, 290, 310, 330, 331, 340, 350, 351, 360, 361, 362, 370, 371,
-    372, 380, 440, 451, 473, 480, 481, 490, 500, 501, 502, 510, 511, 520, 530, 531, 540, 541, 542, 550, 551, 552, 560,
-    570,
+    372, 380, 440, 451, 470, 473, 480, 481, 490, 500, 501, 502, 510, 511, 520, 530, 531, 540, 541, 542, 550, 551, 552,
+    560, 570,
 ];
 
 /// Cell forms: code 1000 + f for cell f.
@@ -90,7 +90,7 @@ mod tests {
 
     #[test]
     fn the_codes_rise_and_have_places() {
-        assert_eq!(COUNT, 137);
+        assert_eq!(COUNT, 138);
         assert!(CODES.windows(2).all(|pair| pair[0] < pair[1]));
         for (i, &code) in CODES.iter().enumerate() {
             assert_eq!(place(code), i);
@@ -98,7 +98,7 @@ mod tests {
     }
 
     #[test]
-    fn all_137_codes_and_11_refusals_have_words() {
+    fn all_138_codes_and_11_refusals_have_words() {
         assert!(code_rows().map(|row| row.0).eq(CODES));
         assert!(code_rows().all(|(_, row)| row.len() == 3 && row.iter().all(|cell| !cell.is_empty())));
         assert!(refusal_rows().map(|row| row.0).eq(1..=11));

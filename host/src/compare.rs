@@ -204,20 +204,20 @@ mod tests {
             register: vec![0; 83],
             day: 20250322,
             micro: 7,
-            findings: vec![9; 137],
+            findings: vec![9; 138],
         };
         let mut expected =
             Answered { findings: case.findings.clone(), register: case.register.clone(), ..Default::default() };
         let mut ours = expected.clone();
         expected.outcome = Outcome { answer: 0, count: 2, words: [3, 0, 0] };
         expected.findings[..2].copy_from_slice(&[23, 24]);
-        ours.outcome = Outcome { answer: 9, count: 1, words: [1, 0, 1 << 8] };
+        ours.outcome = Outcome { answer: 9, count: 1, words: [1, 0, 1 << 9] };
         ours.findings[0] = 23;
         ours.register[82] = 1;
         let told = describe(5, &case, &expected, Some(&ours));
         for part in [
             "case 5\n  line (6 bytes): NEW|a\\xff\n",
-            "at microsecond 7; 137 findings entries; register of 83 bytes, 0 rows used; LEI 3 bytes; CTY 3 bytes;",
+            "at microsecond 7; 138 findings entries; register of 83 bytes, 0 rows used; LEI 3 bytes; CTY 3 bytes;",
             "expected: answer 0 (judged), count 2, words 0000000000000003 0000000000000000 0000000000000000\n",
             "ours: answer 9 (The line is over 4,096 bytes), count 1, words 0000000000000001 0000000000000000 00",
             "in both: 23 A NEW line for a reference",

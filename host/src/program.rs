@@ -33,7 +33,7 @@ pub fn run(mut input: impl BufRead, mut output: impl Write) -> io::Result<()> {
         if number == 1 {
             continue;
         }
-        let mut findings = [0; 137];
+        let mut findings = [0; 138];
         let outcome = judge_line(&lists, &mut register, moment, &mut findings, &line);
         write!(output, "{number} {} {}", outcome.answer, outcome.count)?;
         for code in &findings[..outcome.count as usize] {

@@ -1,6 +1,6 @@
 //! Makes calls by a fixed recipe, and writes them with the results expected of them.
 //!
-//! Most cases have an aim: one of the 137 codes or 11 refusals, to be met just so or just missed. The recipe
+//! Most cases have an aim: one of the 138 codes or 11 refusals, to be met just so or just missed. The recipe
 //! then knows what shall come out, from its own plain reading of the rules, and says so if the reference
 //! disagrees. Others are clean lines of all kinds, sequences over one register, and calls at random.
 

@@ -10,6 +10,7 @@ mod lists;
 mod register;
 mod report;
 mod rules;
+mod underlying;
 mod verdict;
 
 pub use calendar::{Day, Moment, MICROS};

@@ -154,7 +154,7 @@ impl Calls {
     fn change_findings(&mut self, case: &mut Case) {
         let rng = &mut self.rng;
         let any = rng.below(300);
-        let length = rng.of(&[0, 1, 136, 137, 138, 200, any]);
+        let length = rng.of(&[0, 1, 137, 138, 139, 200, any]);
         case.findings = (0..length).map(|_| rng.next() as u16).collect();
     }
 

@@ -190,7 +190,7 @@ mod tests {
         let mut bytes = day.register.clone();
         let mut register = Register::open(&mut bytes).unwrap();
         let moment = Moment::new(day.day, day.micro).unwrap();
-        let mut findings = [0; 137];
+        let mut findings = [0; 138];
         let (mut clean, mut found) = (0, 0);
         for line in &day.lines {
             let outcome = judge_line(&lists, &mut register, moment, &mut findings, line);

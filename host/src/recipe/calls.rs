@@ -96,7 +96,7 @@ impl Maker {
                 (case, Intent::Judged)
             }
             8 => {
-                case.findings = vec![FILLER; 137];
+                case.findings = vec![FILLER; 138];
                 (case, Intent::Exactly(Vec::new()))
             }
             _ => (case, Intent::Exactly(Vec::new())),
@@ -143,7 +143,7 @@ impl Maker {
             6 => self.damage_register(&mut case.register),
             7 => self.damage_moment(case),
             8 => {
-                let entries = self.rng.of(&[0, 1, 64, 135, 136, 136, 136]);
+                let entries = self.rng.of(&[0, 1, 64, 136, 137, 137, 137]);
                 case.findings = vec![FILLER; entries];
             }
             9 => self.overfill(&mut case.line),

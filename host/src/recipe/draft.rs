@@ -641,7 +641,7 @@ impl Maker {
     /// The call of a draft, with a register made for it.
     pub fn case(&mut self, draft: &Draft) -> Case {
         let register = self.register(draft);
-        let entries = self.rng.of(&[137, 137, 137, 137, 137, 137, 137, 138, 150, 200]);
+        let entries = self.rng.of(&[138, 138, 138, 138, 138, 138, 138, 139, 150, 200]);
         Case {
             line: draft.line(),
             lists: self.world.lists.clone(),

@@ -74,30 +74,14 @@ pub fn text(most: usize) -> impl Fn(&[u8]) -> Option<&str> {
     }
 }
 
-/// Printable ASCII of at most so many characters.
+/// Printable ASCII of so many characters.
 fn printable(cell: &[u8], length: RangeInclusive<usize>) -> Option<&[u8]> {
     made_of(cell, length, is_printable).then_some(cell)
 }
 
-/// Cells 48 and 49.
+/// Cell 48, and cell 49 where cell 47 does not tell of which kind it is.
 pub fn index_text(cell: &[u8]) -> Option<&[u8]> {
     printable(cell, 1..=400)
-}
-
-/// Cell 47: which of its two kinds, with what follows the colon.
-#[derive(Clone, Copy, Debug, PartialEq, Eq)]
-pub enum Underlying<'a> {
-    Swap(&'a [u8]),
-    Other(&'a [u8]),
-}
-
-/// Cell 47.
-pub fn underlying(cell: &[u8]) -> Option<Underlying<'_>> {
-    if let Some(rest) = cell.strip_prefix(b"SWAP:") {
-        printable(rest, 0..=400).map(Underlying::Swap)
-    } else {
-        printable(cell.strip_prefix(b"OTHR:")?, 0..=400).map(Underlying::Other)
-    }
 }
 
 /// How a person is identified.
@@ -318,16 +302,23 @@ pub fn lei_check(lei: &Lei) -> bool {
     remainder == 1
 }
 
-/// Cell 41: the shape, and the check digit by ISO 6166: letters spread into two digits, every second digit
-/// from the right doubled, the sum of all resulting digits divisible by ten.
+/// Cell 41: the shape and the check digit.
 pub fn isin(cell: &[u8]) -> Option<&Isin> {
-    let isin: &Isin = cell.try_into().ok()?;
+    isin_shape(cell).filter(|isin| isin_check(isin))
+}
+
+/// The shape of an ISIN, the check digit aside.
+pub fn isin_shape(text: &[u8]) -> Option<&Isin> {
+    let isin: &Isin = text.try_into().ok()?;
     let shaped = isin[..2].iter().all(u8::is_ascii_uppercase)
         && isin[2..11].iter().all(is_code_letter)
         && isin[11].is_ascii_digit();
-    if !shaped {
-        return None;
-    }
+    shaped.then_some(isin)
+}
+
+/// ISO 6166: letters spread into two digits, every second digit from the right doubled, the sum of all resulting
+/// digits divisible by ten.
+pub fn isin_check(isin: &Isin) -> bool {
     let (mut sum, mut double) = (0, false);
     let mut add = |digit: u32| {
         let weighted = if double { digit * 2 } else { digit };
@@ -340,7 +331,7 @@ pub fn isin(cell: &[u8]) -> Option<&Isin> {
             add(value / 10);
         }
     }
-    (sum % 10 == 0).then_some(isin)
+    sum % 10 == 0
 }
 
 #[cfg(test)]
@@ -375,6 +366,7 @@ mod tests {
         }
         for wrong in ["US0378331004", "US037833100", "US03783310055", "us0378331005", "U10378331005", "US037833100A"] {
             assert!(isin(wrong.as_bytes()).is_none(), "{wrong}");
+            assert_eq!(isin_shape(wrong.as_bytes()).is_some(), wrong == "US0378331004", "{wrong}");
         }
     }
 
@@ -434,7 +426,6 @@ mod tests {
         for wrong in [&b"\xc0\x80"[..], b"\xed\xa0\x80", b"\xf4\x90\x80\x80", b"\xe2\x82", b"\x80", b"\xff"] {
             assert!(name(wrong).is_none());
         }
-        assert!(underlying(b"SWAP:").is_some() && underlying(b"SWAP").is_none() && underlying(b"OTHR:~").is_some());
         assert!(index_text(&[b' '; 400]).is_some() && index_text(&[b' '; 401]).is_none());
         assert_eq!(second_currency(b"INTRST:EUR"), Some(b"EUR"));
         assert!(second_currency(b"FX:EURO").is_none() && second_currency(b"EUR").is_none());

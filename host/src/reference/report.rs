@@ -2,8 +2,9 @@
 
 use super::calendar::{Day, Moment};
 use super::cfi::Cfi;
-use super::forms::{self, Decimal, Party, Price, Quantity, Underlying};
+use super::forms::{self, Decimal, Party, Price, Quantity};
 use super::register::Pair;
+use super::underlying::{self, Underlying};
 use super::verdict::Verdict;
 use super::{Isin, Lei, Mic, CELLS};
 
@@ -49,6 +50,16 @@ impl<'a> Reader<'_, 'a> {
     fn decider(&mut self, cell: usize, birth_cell: usize) -> PartyCells<'a> {
         let party = self.optional(cell, forms::decider);
         PartyCells { party, birth: self.optional(birth_cell, Day::read) }
+    }
+
+    /// Cell 49, which goes by cell 47: without that there is nothing to have a term, and where its kind is not to be
+    /// told, any text will do.
+    fn index_term(&mut self, underlying: &Optional<Underlying>) -> Optional<&'a [u8]> {
+        match underlying {
+            Ok(Some(underlying)) => self.optional(49, |cell| underlying::index_term(cell, underlying.kind)),
+            Ok(None) => self.optional(49, |_| None),
+            Err(Malformed) => self.optional(49, forms::index_text),
+        }
     }
 
     fn check<T>(&mut self, cell: usize, form: impl FnOnce(&'a [u8]) -> Option<T>) {
@@ -147,7 +158,7 @@ pub struct Report<'a> {
     /// 45
     pub notional_2: Optional<&'a [u8; 3]>,
     /// 47
-    pub underlying: Optional<Underlying<'a>>,
+    underlying: Optional<Underlying<'a>>,
     /// 48
     pub index_name: Optional<&'a [u8]>,
     /// 49
@@ -175,6 +186,7 @@ impl<'a> Report<'a> {
     pub fn read(cells: &[&'a [u8]; CELLS], verdict: &mut Verdict) -> Report<'a> {
         let mut reader = Reader { cells, verdict };
         reader.check_the_rest();
+        let underlying = reader.optional(47, underlying::underlying);
         Report {
             reference: reader.needed(2, forms::reference),
             venue_reference: reader.optional(3, forms::reference),
@@ -204,9 +216,9 @@ impl<'a> Report<'a> {
             cfi: reader.optional(43, Cfi::read),
             notional_1: reader.optional(44, forms::capitals),
             notional_2: reader.optional(45, forms::second_currency),
-            underlying: reader.optional(47, forms::underlying),
             index_name: reader.optional(48, forms::index_text),
-            index_term: reader.optional(49, forms::index_text),
+            index_term: reader.index_term(&underlying),
+            underlying,
             option_type: reader.optional(50, forms::one_of(&[b"PUTO", b"CALL", b"OTHR"])),
             strike: reader.optional(51, forms::price),
             strike_currency: reader.optional(52, forms::capitals),
@@ -221,6 +233,11 @@ impl<'a> Report<'a> {
     /// Cells 4 and 2.
     pub fn pair(&self) -> Form<Pair> {
         Ok(Pair::new(self.entity?, self.reference?))
+    }
+
+    /// Cell 47, lent.
+    pub fn underlying(&self) -> Optional<&Underlying<'a>> {
+        self.underlying.as_ref().map(Option::as_ref).map_err(|malformed| *malformed)
     }
 }
 

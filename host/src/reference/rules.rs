@@ -1,4 +1,4 @@
-//! The 72 rules. Each is a closure that takes the cells it names with `?`, so that a cell with a form finding
+//! The 73 rules. Each is a closure that takes the cells it names with `?`, so that a cell with a form finding
 //! ends it unviolated.
 //!
 //! `a? && b?` may leave `b` unread: then `a` was false and the rule is not violated either way. Where one of
@@ -6,7 +6,7 @@
 
 use super::calendar::{Day, Moment};
 use super::cfi::{self, Cfi};
-use super::forms::{lei_check, Party, Price, Quantity, Underlying};
+use super::forms::{isin_check, lei_check, Party, Price, Quantity};
 use super::lists::{Lists, VenueKinds};
 use super::register::Standing;
 use super::report::{Cancellation, Form, Report};
@@ -73,6 +73,7 @@ pub fn judge_new(report: &Report, lists: &Lists, moment: Moment, standing: Form<
     judge_venue(report, lists, verdict);
     judge_listed_instrument(report, lists, verdict);
     judge_dates(report, verdict);
+    judge_underlying(report, verdict);
     if let Ok(Some(cfi)) = report.cfi {
         judge_classification(report, cfi, verdict);
     }
@@ -229,13 +230,25 @@ fn judge_dates(report: &Report, verdict: &mut Verdict) {
     verdict.rule(552, || Ok(matches!(report.expiry?, Some(expiry) if expiry < t?)));
 }
 
-/// The rules by classification; none matches where cell 43 is blank.
+/// 470, which does not look at the classification, and 473, which asks a swap for legs or the name of an index.
+fn judge_underlying(report: &Report, verdict: &mut Verdict) {
+    verdict.rule(470, || {
+        let Some(underlying) = report.underlying()? else { return Ok(false) };
+        Ok(underlying.isins.iter().any(|isin| !isin_check(isin)))
+    });
+    verdict.rule(473, || {
+        let (cfi, underlying, index_name) = (report.cfi?, report.underlying()?, report.index_name?);
+        let given = underlying.is_some_and(|given| given.is_swap() && !(given.is_empty() && index_name.is_none()));
+        Ok(cfi.is_some_and(|cfi| cfi.is_any(cfi::SWAPS)) && !given)
+    });
+}
+
+/// The other rules by classification; none matches where cell 43 is blank.
 fn judge_classification(report: &Report, cfi: Cfi, verdict: &mut Verdict) {
     let is = |patterns| cfi.is_any(patterns);
     verdict.rule(330, || Ok(is(cfi::DEBT) && units_at_percent(report)?));
     verdict.rule(350, || Ok(is(cfi::BONDS) && report.net_amount?.is_none()));
     verdict.rule(380, || Ok(is(cfi::CREDIT_SWAPS) && report.up_front?.is_none()));
-    verdict.rule(473, || Ok(is(cfi::SWAPS) && !matches!(report.underlying?, Some(Underlying::Swap(_)))));
 
     verdict.rule(480, || Ok(is(cfi::INDEX_NAME_NEEDED) && report.index_name?.is_none()));
     verdict.rule(481, || Ok(is(cfi::INDEX_NAME_BARRED) && report.index_name?.is_some()));

@@ -162,7 +162,7 @@ fn refusals_come_in_order() {
     assert_eq!(sample.refused(), 10);
     sample.set(42, &"x".repeat(4097));
     assert_eq!(sample.refused(), 9);
-    sample.findings.truncate(136);
+    sample.findings.truncate(137);
     assert_eq!(sample.refused(), 8);
     sample.micro = 86_400_000_000;
     assert_eq!(sample.refused(), 7);
@@ -187,8 +187,8 @@ fn refusals_at_their_edges() {
         change(&mut sample);
         sample.judge().answer
     };
-    assert_eq!(judged(|sample| sample.findings.truncate(137)), 0);
-    assert_eq!(judged(|sample| sample.findings.truncate(136)), 8);
+    assert_eq!(judged(|sample| sample.findings.truncate(138)), 0);
+    assert_eq!(judged(|sample| sample.findings.truncate(137)), 8);
     assert_eq!(judged(|sample| sample.micro = 86_399_999_999), 0);
     for day in [20230229, 18991231, 100000101, 20250332, 0, u32::MAX] {
         let mut sample = clean();
@@ -209,16 +209,17 @@ fn refusals_at_their_edges() {
     assert_eq!(clean().judge_line(b"").answer, 10);
     assert_eq!(clean().judge_line(&[b'|'; 63]).answer, 10);
     assert_eq!(clean().judge_line(&[b'|'; 65]).answer, 10);
-    assert_eq!(clean().judge_line(&[b'|'; 64]), Outcome { answer: 0, count: 1, words: [0, 1 << 8, 0] });
+    assert_eq!(clean().judge_line(&[b'|'; 64]), Outcome { answer: 0, count: 1, words: [0, 1 << 9, 0] });
 }
 
 #[test]
 fn the_place_of_each_code() {
-    // 023 is the lowest bit of the first word; 1001 is the 73rd code, 1065 the last.
+    // 023 is the lowest bit of the first word; 1001 is the 74th code, 1065 the last.
     let mut sample = clean();
     sample.judge();
     assert_eq!(sample.judge().words, [1, 0, 0]);
-    assert_eq!(clean().with(&[(65, "")]).judge().words, [0, 0, 1 << 8]);
+    assert_eq!(clean().with(&[(65, "")]).judge().words, [0, 0, 1 << 9]);
+    assert_eq!(clean().with(&[(47, "OTHR:{0:DE0005557507}")]).judge().words, [1 << 52, 0, 0]);
     assert_eq!(clean().with(&[(1, "new")]).codes(), [1001]);
 }
 
@@ -393,7 +394,7 @@ fn classifications() {
     assert_eq!(of("HTAXXP", &[(50, "CALL"), (51, "NOAP"), (53, "EURO")]), [560]);
     // The P of HT***P is the sixth letter, not the fifth.
     assert_eq!(of("HTAXPX", &[(50, "CALL"), (51, "NOAP"), (53, "EURO")]), []);
-    assert_eq!(of("SFXXXC", &[(47, "SWAP:")]), []);
+    assert_eq!(of("SFXXXC", &[(47, "SWAP:+{0:DE0005557508}")]), []);
     assert_eq!(of("SFXXXP", &[(47, "OTHR:")]), [473, 560]);
     assert_eq!(of("SCXXXC", &[(56, "PHYS")]), [380, 473, 560]);
     assert_eq!(of("RWXXPX", &[(50, "CALL"), (51, "NOAP"), (53, "EURO")]), [502]);
@@ -404,4 +405,81 @@ fn classifications() {
     assert_eq!(sample.with(&[(33, "PC:1")]).codes(), [331, 351]);
     sample.ins = list("INS", &[row("AA0000000006", b"DBFTF*", 0, u32::MAX)]);
     assert_eq!(sample.with(&[(33, "PC:1")]).codes(), []);
+}
+
+#[test]
+fn isins_of_the_underlying() {
+    let of = |underlying: &str| clean().with(&[(47, underlying)]).codes();
+    let wrong = "DE0005557507";
+    for right in ["SWAP:", "OTHR:", "OTHR:{0:DE0005557508}", "SWAP:+{0:DE0005557508};-{0:BG11FOKAAT18}"] {
+        assert_eq!(of(right), [], "{right}");
+    }
+    assert_eq!(of(&format!("OTHR:{{0:{wrong}}}")), [470]);
+    assert_eq!(of(&format!("OTHR:{{0:DE0005557508,1:{wrong},2:DE0005557508}}")), [470]);
+    assert_eq!(of(&format!("SWAP:-{{0:{wrong}}}")), [470]);
+    assert_eq!(of(&format!("SWAP:+{{0:DE0005557508}};-{{0:BG11FOKAAT18,1:{wrong}}}")), [470]);
+    // It reads cell 47 alone, and says nothing of a malformed one.
+    assert_eq!(of(&format!("OTHR:{{0:{wrong} }}")), [1047]);
+    let sample = clean().with(&[(47, &format!("OTHR:{{0:{wrong}}}")), (28, "x"), (43, "x"), (48, "\u{1}"), (49, "x")]);
+    assert_eq!(sample.codes(), [470, 1028, 1043, 1048, 1049]);
+    assert_eq!(sample.with(&[(1, "CXL"), (49, "x")]).codes(), [24]);
+}
+
+#[test]
+fn underlying_of_a_swap() {
+    let leg = "SWAP:+{0:DE0005557508}";
+    let of = |underlying: &str, name: &str| clean().with(&[(43, "SFXXXX"), (47, underlying), (48, name)]).codes();
+    for none in ["", "OTHR:", "OTHR:{0:DE0005557508}"] {
+        assert_eq!([of(none, ""), of(none, "DAX")], [[473], [473]], "{none}");
+    }
+    for alone in ["SWAP:", "SWAP:   "] {
+        assert_eq!(of(alone, ""), [473]);
+        assert_eq!(of(alone, "DAX"), []);
+    }
+    assert_eq!(of(leg, ""), []);
+    assert_eq!(of(leg, "DAX"), []);
+    assert_eq!(of("SWAP:+{0:DE0005557507}", ""), [470]);
+    // A form finding in any of the three cells rules it out, whatever the others say.
+    assert_eq!(of("OTHR:~", ""), [1047]);
+    for underlying in ["", "OTHR:", "SWAP:"] {
+        assert_eq!(of(underlying, "\u{1}"), [1048]);
+        assert_eq!(clean().with(&[(43, "SFXXX"), (47, underlying)]).codes(), [1043]);
+    }
+    assert_eq!(clean().with(&[(43, "FFXXXX"), (47, "SWAP:"), (55, "2025-03-21")]).codes(), []);
+}
+
+#[test]
+fn index_terms_go_by_the_underlying() {
+    let of = |underlying: &str, term: &str| clean().with(&[(47, underlying), (49, term)]).codes();
+    let (swap, other) = ("+{0:MNTH#3};-{0: MNTH#3}", "{0:MNTH#3}");
+    for underlying in ["SWAP:", "SWAP: ", "SWAP:-{7:DE0005557508}", "SWAP:+{0:DE0005557508};-{0:BG11FOKAAT18}"] {
+        assert_eq!(of(underlying, swap), []);
+        assert_eq!(of(underlying, "+{5:YEAR#1,6:YEAR#2}"), []);
+        assert_eq!(of(underlying, other), [1049]);
+        assert_eq!(of(underlying, ""), []);
+    }
+    for underlying in ["OTHR:", "OTHR:{0:DE0005557508,1:DE0005557508}"] {
+        assert_eq!(of(underlying, other), []);
+        assert_eq!(of(underlying, swap), [1049]);
+        assert_eq!(of(underlying, ""), []);
+    }
+    for term in [swap, other, "X", " "] {
+        assert_eq!(of("", term), [1049]);
+    }
+    // Beside a malformed cell 47 any text will do.
+    let longest = "~".repeat(400);
+    for term in [swap, other, "X", " ", &longest, ""] {
+        assert_eq!(of("OTHR:~", term), [1047]);
+    }
+    let too_long = "~".repeat(401);
+    for term in [&too_long, "+{0:\u{1}}", "\u{7f}", "é"] {
+        assert_eq!(of("OTHR:~", term), [1047, 1049]);
+    }
+    // 490 looks at cell 49 alone: a malformed cell 47 does not silence it.
+    let option =
+        clean().with(&[(43, "OCENXN"), (48, "X"), (50, "CALL"), (51, "NOAP"), (53, "EURO"), (55, "2025-03-21")]);
+    assert_eq!(option.codes(), [490]);
+    assert_eq!(option.with(&[(47, "OTHR:~")]).codes(), [490, 1047]);
+    assert_eq!(option.with(&[(47, "OTHR:"), (49, swap)]).codes(), [1049]);
+    assert_eq!(option.with(&[(47, "OTHR:"), (49, other)]).codes(), []);
 }

@@ -25,7 +25,7 @@ const SIZES: [usize; 4] = [64, 1000, 10_000, 100_000];
 fn ours(day: &BenchDay, register: &mut [u8]) -> usize {
     let [lei, cty, ccy, ven, ins] = &day.lists;
     let (day, micro, lines) = (day.day, day.micro, &day.lines);
-    let mut findings = [0; 137];
+    let mut findings = [0; 138];
     let mut clean = 0;
     for line in lines {
         let (register, findings) = (&mut *register, &mut findings[..]);
@@ -39,7 +39,7 @@ fn ours(day: &BenchDay, register: &mut [u8]) -> usize {
 #[inline(never)]
 fn reference(day: &BenchDay, lists: &Lists, register: &mut Register) -> usize {
     let moment = Moment::new(day.day, day.micro).expect("the moment of a day");
-    let mut findings = [0; 137];
+    let mut findings = [0; 138];
     let mut clean = 0;
     for line in &day.lines {
         let outcome = judge_line(lists, register, moment, &mut findings, line);

@@ -107,7 +107,7 @@ struct Tally {
     calls: u64,
     answers: [u64; 12],
     clean: u64,
-    codes: [u64; 137],
+    codes: [u64; 138],
 }
 
 impl Tally {
@@ -127,7 +127,7 @@ impl Tally {
         println!("refused, by number: {}", refused.join(", "));
         let seen = self.codes.iter().filter(|times| **times > 0).count();
         let (rarest, code) = self.codes.iter().zip(CODES).min().expect("there are codes");
-        println!("codes: {seen} of 137 seen; the rarest is {code:03}, seen {rarest} times");
+        println!("codes: {seen} of 138 seen; the rarest is {code:03}, seen {rarest} times");
     }
 }
 
@@ -166,7 +166,7 @@ fn run(seed: u64, count: u64, seconds: u64) -> Result<(), String> {
     let start = Instant::now();
     let mut calls = Calls::new(seed);
     let mut places = Places::new();
-    let mut tally = Tally { calls: 0, answers: [0; 12], clean: 0, codes: [0; 137] };
+    let mut tally = Tally { calls: 0, answers: [0; 12], clean: 0, codes: [0; 138] };
     while tally.calls < count && start.elapsed() < Duration::from_secs(seconds) {
         CALL.store(tally.calls + 1, Ordering::Relaxed);
         let case = calls.next_call();
