@@ -11,6 +11,7 @@ mod draft;
 mod kinds;
 pub(crate) mod rng;
 mod rules;
+mod underlying;
 mod values;
 mod world;
 
@@ -25,7 +26,6 @@ pub use bench::{bench_day, sized_bench_day, BenchDay};
 use draft::{Draft, Maker, Want};
 use kinds::KINDS;
 use rng::Rng;
-use values::malformed;
 use world::World;
 
 /// Cases made in one world.
@@ -61,10 +61,11 @@ pub struct Recipe {
     maker: Maker,
     /// Cases made so far.
     made: usize,
-    /// Aims, patterns and clean lines take turns.
+    /// Aims, patterns, clean lines and mistakes in cells 47 and 49 take turns.
     aims: usize,
     patterns: usize,
     kinds: usize,
+    mistakes: usize,
     /// The rest of a sequence.
     waiting: VecDeque<(Case, Intent)>,
 }
@@ -73,7 +74,8 @@ impl Recipe {
     pub fn new(seed: u64) -> Recipe {
         let mut rng = Rng::new(seed);
         let world = World::make(&mut rng);
-        Recipe { maker: Maker { rng, world }, made: 0, aims: 0, patterns: 0, kinds: 0, waiting: VecDeque::new() }
+        let maker = Maker { rng, world };
+        Recipe { maker, made: 0, aims: 0, patterns: 0, kinds: 0, mistakes: 0, waiting: VecDeque::new() }
     }
 
     /// The next case, with what it shall come to.
@@ -88,9 +90,10 @@ impl Recipe {
         match self.maker.rng.below(100) {
             0..=59 => self.aimed(),
             60..=68 => self.pattern(),
-            69..=79 => self.clean(),
-            80..=87 => self.maker.mixture(),
-            88..=93 => self.maker.nudges(),
+            69..=77 => self.clean(),
+            78..=81 => self.underlying(),
+            82..=88 => self.maker.mixture(),
+            89..=93 => self.maker.nudges(),
             94..=95 => self.maker.wreck(),
             96..=98 => self.maker.refusals(),
             _ => {
@@ -123,8 +126,7 @@ impl Recipe {
             // A form finding in a cell that the rule reads, each in turn: the rule falls silent.
             4 if code < 1000 => {
                 let cell = reads[rounds / 6 % reads.len()];
-                let value = malformed(&mut maker.rng, cell);
-                draft.set(cell, value);
+                maker.malform(&mut draft, cell);
                 intent = Intent::Exactly(vec![1000 + cell as u16]);
             }
             // One in another cell stands beside it. Beside 1001 nothing does.
@@ -147,6 +149,13 @@ impl Recipe {
         (self.maker.case(&draft), Intent::Exactly(codes))
     }
 
+    /// The next mistake in cell 47 or 49 in turn, and a line without one by turns.
+    fn underlying(&mut self) -> (Case, Intent) {
+        let turn = self.mistakes;
+        self.mistakes += 1;
+        self.maker.underlying_form(turn)
+    }
+
     /// The next kind of clean line in turn; after all of them a cancellation.
     fn clean(&mut self) -> (Case, Intent) {
         let kind = KINDS.get(self.kinds % (KINDS.len() + 1));
@@ -164,9 +173,13 @@ fn add_form(maker: &mut Maker, draft: &mut Draft, intent: Intent, reads: &[usize
     let Intent::Exactly(mut codes) = intent else { unreachable!("what is met is known exactly") };
     let has = |cell: usize| reads.contains(&cell) || codes.contains(&(1000 + cell as u16));
     let cells: Vec<usize> = (2..=65).filter(|cell| !has(*cell)).collect();
-    let cell = maker.rng.of(&cells);
-    let value = malformed(&mut maker.rng, cell);
-    draft.set(cell, value);
+    let cell = match codes[..] {
+        // Cell 49 goes by cell 47, and otherwise beside a malformed one.
+        [1047] if maker.rng.one_in(2) => 49,
+        [1049] if maker.rng.one_in(2) => 47,
+        _ => maker.rng.of(&cells),
+    };
+    maker.malform(draft, cell);
     if draft.get(1) == b"NEW" || [2, 4, 6].contains(&cell) {
         codes.push(1000 + cell as u16);
     }

@@ -7,7 +7,6 @@ use crate::reference::{Day, MICROS};
 use super::draft::{any_pair, days_before, Draft, Maker, Want};
 use super::kinds::Kind;
 use super::rng::{Rng, CODE};
-use super::values::malformed;
 use super::world::{World, NOT_LAPSED};
 
 /// How many rows the register has room for, beside those used before the first line.
@@ -147,8 +146,7 @@ impl House {
         };
         for _ in 0..self.maker.rng.of(&[0, 0, 0, 1, 2]) {
             let cell = self.maker.rng.between(2, 65);
-            let value = malformed(&mut self.maker.rng, cell);
-            draft.set(cell, value);
+            self.maker.malform(&mut draft, cell);
         }
         draft
     }

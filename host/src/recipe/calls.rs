@@ -5,7 +5,8 @@ use crate::reference::MICROS;
 
 use super::draft::{timestamp, Draft, Maker, Want};
 use super::rng::{Rng, CODE};
-use super::values::{malformed, nudged, scheme, well_formed, well_shaped, NEEDED};
+use super::underlying::{self, Kind, Size};
+use super::values::{nudged, scheme, well_formed, well_shaped, NEEDED};
 use super::world::ANY_STATUS;
 use super::Intent;
 
@@ -38,14 +39,16 @@ impl Maker {
         let cancelled = [2, 4, 6].contains(&cell) && self.rng.one_in(4);
         let mut draft = if cancelled { self.cancellation() } else { self.clean(Want::default()) };
         let code = 1000 + cell as u16;
+        if cell == 47 || cell == 49 {
+            self.set_underlying_form(&mut draft, cell, hit);
+            return (draft, Intent::Exactly(if hit { vec![code] } else { Vec::new() }));
+        }
         if hit {
-            let value = malformed(&mut self.rng, cell);
-            draft.set(cell, value);
+            self.malform(&mut draft, cell);
             if cell == 1 && self.rng.one_in(2) {
                 // Nothing else is looked at then.
                 for cell in [2, 4, 6, 7, 28, 36, 65] {
-                    let value = malformed(&mut self.rng, cell);
-                    draft.set(cell, value);
+                    self.malform(&mut draft, cell);
                 }
             }
             return (draft, Intent::Exactly(vec![code]));
@@ -62,6 +65,48 @@ impl Maker {
         draft.set(cell, value);
         let harmless = cell <= 2 || UNREAD.contains(&cell) || other_time || (cancelled && cell == 4);
         (draft, if harmless { Intent::Exactly(Vec::new()) } else { Intent::Without(code) })
+    }
+
+    /// Cell 47 or 49 malformed, or both well formed. Beside a malformed cell 47 any text will do in cell 49.
+    fn set_underlying_form(&mut self, draft: &mut Draft, cell: usize, hit: bool) {
+        if cell == 49 && hit && !draft.is_swap() && self.rng.one_in(4) {
+            draft.blank(47);
+        } else {
+            self.set_underlying(draft, Size::Any);
+        }
+        if hit {
+            self.malform(draft, cell);
+        }
+        if cell == 47 && hit && self.rng.one_in(2) {
+            let value = underlying::any_index_term(&mut self.rng);
+            draft.set(49, value);
+        }
+        if cell == 49 && !hit {
+            self.set_index_term(draft, Size::Any);
+        }
+    }
+
+    /// The next mistake in cell 47 or 49 by turns, in texts of both kinds; every other time there is none.
+    pub fn underlying_form(&mut self, turn: usize) -> (Case, Intent) {
+        let mut draft = self.clean(Want::default());
+        let (which, rest) = (turn / 2 % underlying::MISTAKE_COUNT, turn / 2 / underlying::MISTAKE_COUNT);
+        let (cell, kind) = ([47, 49][rest % 2], underlying::KINDS[rest / 2 % 2]);
+        self.set_underlying(&mut draft, Size::Any);
+        if turn % 2 == 1 {
+            self.set_index_term(&mut draft, Size::Any);
+            return (self.case(&draft), Intent::Exactly(Vec::new()));
+        }
+        if cell == 47 {
+            let value = underlying::mistaken_underlying(&mut self.rng, kind, which);
+            draft.spoil(47, value);
+            return (self.case(&draft), Intent::Exactly(vec![1047]));
+        }
+        let kind = if draft.is_swap() { Kind::Swap } else { kind };
+        let value = underlying::with_legs(&mut self.rng, kind, Size::Short);
+        draft.set(47, value);
+        let value = underlying::mistaken_index_term(&mut self.rng, kind, which);
+        draft.spoil(49, value);
+        (self.case(&draft), Intent::Exactly(vec![1049]))
     }
 
     /// A call that gets this refusal, or just does not.
@@ -288,8 +333,7 @@ impl Maker {
             }
             2 => {
                 let cell = self.rng.of(&NEEDED[1..]);
-                let value = malformed(&mut self.rng, cell);
-                draft.set(cell, value);
+                self.malform(&mut draft, cell);
                 (self.case(&draft), Intent::Exactly(vec![1000 + cell as u16]))
             }
             3 => {
@@ -372,8 +416,7 @@ impl Maker {
         };
         if self.rng.one_in(6) {
             // A rejected line leaves no trace.
-            let value = malformed(&mut self.rng, 6);
-            draft.set(6, value);
+            self.malform(&mut draft, 6);
             found.push(1006);
         }
         if found.is_empty() && pair.live.is_none() && full {
@@ -403,7 +446,7 @@ impl Maker {
         (case, Intent::Any)
     }
 
-    /// Single bytes changed in several cells at once: parties always, others as it comes.
+    /// Single bytes changed in several cells at once: parties and what is underlying always, others as it comes.
     pub fn nudges(&mut self) -> (Case, Intent) {
         let mut draft = self.clean(Want::default());
         let mut cells = vec![7, 12, 16, 21, 57, 59];
@@ -420,9 +463,20 @@ impl Maker {
             let value = if self.rng.one_in(4) { value } else { nudged(&mut self.rng, value) };
             draft.set(cell, value);
         }
+        self.nudge_underlying(&mut draft);
         let mut case = self.case(&draft);
         case.line.truncate(LONGEST_LINE);
         (case, Intent::Any)
+    }
+
+    /// A byte changed in cell 47 or in cell 49, which is looked at closely only where cell 47 is as it should be.
+    fn nudge_underlying(&mut self, draft: &mut Draft) {
+        let size = self.rng.of(&[Size::Short, Size::Any]);
+        self.set_underlying(draft, size);
+        self.set_index_term(draft, size);
+        let cell = self.rng.of(&[47, 49]);
+        let value = nudged(&mut self.rng, draft.get(cell).to_vec());
+        draft.set(cell, value);
     }
 
     /// Every cell changed.
@@ -432,8 +486,7 @@ impl Maker {
         let mut found = Vec::new();
         for cell in 2..=65 {
             if malformed_only {
-                let value = malformed(&mut self.rng, cell);
-                draft.set(cell, value);
+                self.malform(&mut draft, cell);
                 found.push(1000 + cell as u16);
             } else if !self.rng.one_in(4) {
                 self.change(&mut draft, cell);
@@ -454,7 +507,7 @@ impl Maker {
     fn change(&mut self, draft: &mut Draft, cell: usize) {
         let t = draft.t;
         let value = match self.rng.below(8) {
-            0 => malformed(&mut self.rng, cell),
+            0 => return self.malform(draft, cell),
             1 => Vec::new(),
             2 => {
                 let other = self.rng.between(1, 65);

@@ -5,6 +5,7 @@ use crate::reference::{Day, MICROS};
 
 use super::classes::{any_class, needs, Need, Needs};
 use super::rng::{Rng, ALPHANUMERIC, CAPITALS, CODE};
+use super::underlying::{self, Kind, Size};
 use super::values;
 use super::world::{make_lei, Venue, World, ANY_STATUS, EARLY, LATE, NOT_LAPSED};
 
@@ -12,6 +13,8 @@ use super::world::{make_lei, Venue, World, ANY_STATUS, EARLY, LATE, NOT_LAPSED};
 #[derive(Clone)]
 pub struct Draft {
     cells: Vec<Vec<u8>>,
+    /// The cells that were made malformed on purpose.
+    malformed: Vec<usize>,
     pub t: Day,
     pub s: Day,
     pub micro: u64,
@@ -27,11 +30,27 @@ impl Draft {
     }
 
     pub fn set(&mut self, cell: usize, value: impl AsRef<[u8]>) {
+        self.malformed.retain(|malformed| *malformed != cell);
         self.cells[cell - 1] = value.as_ref().to_vec();
     }
 
     pub fn blank(&mut self, cell: usize) {
-        self.cells[cell - 1].clear();
+        self.set(cell, "");
+    }
+
+    /// Sets a cell to what is malformed.
+    pub fn spoil(&mut self, cell: usize, value: impl AsRef<[u8]>) {
+        self.set(cell, value);
+        self.malformed.push(cell);
+    }
+
+    fn is_spoilt(&self, cell: usize) -> bool {
+        self.malformed.contains(&cell)
+    }
+
+    /// Is it a swap by its classification?
+    pub fn is_swap(&self) -> bool {
+        self.get(43).starts_with(b"S")
     }
 
     pub fn is_blank(&self, cell: usize) -> bool {
@@ -243,7 +262,8 @@ impl Maker {
                 rng.next() % micro
             }
         });
-        let mut draft = Draft { cells: vec![Vec::new(); 65], t, s, micro, states: Vec::new(), full: false };
+        let cells = vec![Vec::new(); 65];
+        let mut draft = Draft { cells, malformed: Vec::new(), t, s, micro, states: Vec::new(), full: false };
         draft.set(1, "NEW");
         let length = rng.of(&[1, 8, 8, 20, 35, 51, 52]);
         draft.set(2, rng.text(CODE, length));
@@ -484,17 +504,16 @@ impl Maker {
                 draft.blank(cell);
             }
         }
-        if needs.swap {
-            let swaps = ["SWAP:", "SWAP:+{0:DE0005557508};-{0:BG11FOKAAT18}", "SWAP: +{0: DE000A2DASD4}"];
-            draft.set(47, self.rng.of(&swaps));
-        } else if self.rng.one_in(3) {
-            draft.set(47, self.rng.of(&["OTHR:", "OTHR:{0: AT0000A1KVF2}", "SWAP:", "OTHR:~"]));
-        }
         if self.filled(needs.index_name) {
             draft.set(48, self.rng.of(&["{0:DAX 30}", "+{0:DAX 30};-{0:IBEX 35}", "X"]));
         }
-        if self.filled(needs.index_term) {
-            draft.set(49, self.rng.of(&["{0: MNTH#3}", "+{0:DAYS#10};-{0:YEAR#1}", "~"]));
+        // A term of an index goes by cell 47, so that is filled then.
+        let term = self.filled(needs.index_term);
+        if needs.swap || term || self.rng.one_in(3) {
+            self.set_underlying(draft, Size::Short);
+            if term {
+                self.set_index_term(draft, Size::Short);
+            }
         }
         self.set_option(draft, &needs);
         for (cell, need) in [(54, needs.maturity), (55, needs.expiry)] {
@@ -507,6 +526,50 @@ impl Maker {
             draft.set(56, delivery);
         } else if self.rng.one_in(3) {
             draft.set(56, self.rng.of(&["PHYS", "CASH", "OPTL"]));
+        }
+    }
+
+    /// Fills cell 47 so that no rule minds it, and keeps cell 49 to it. The classification and cell 48 are set before.
+    pub fn set_underlying(&mut self, draft: &mut Draft, size: Size) {
+        let kind = if draft.is_swap() { Kind::Swap } else { self.rng.of(&underlying::KINDS) };
+        // A swap has a leg, unless an index is named.
+        let legless = !(draft.is_swap() && draft.is_blank(48)) && self.rng.one_in(3);
+        let value = if legless {
+            underlying::without_legs(&mut self.rng, kind, size)
+        } else {
+            underlying::with_legs(&mut self.rng, kind, size)
+        };
+        self.put_underlying(draft, value);
+    }
+
+    /// Sets cell 47, well formed or blank, and keeps cell 49 to it.
+    pub fn put_underlying(&mut self, draft: &mut Draft, value: impl AsRef<[u8]>) {
+        draft.set(47, value);
+        if draft.is_blank(47) {
+            draft.blank(49);
+        } else if !draft.is_blank(49) {
+            self.set_index_term(draft, Size::Short);
+        }
+    }
+
+    /// Fills cell 49 as cell 47 asks for it.
+    pub fn set_index_term(&mut self, draft: &mut Draft, size: Size) {
+        let kind = Kind::of(draft.get(47)).expect("a well formed cell 47");
+        let value = underlying::index_term(&mut self.rng, kind, size);
+        draft.set(49, value);
+    }
+
+    /// Makes a cell malformed, as the line stands. What was made malformed before stays so.
+    pub fn malform(&mut self, draft: &mut Draft, cell: usize) {
+        let value = match (cell, Kind::of(draft.get(47))) {
+            (49, Some(kind)) if !draft.is_spoilt(47) => underlying::bad_index_term(&mut self.rng, kind),
+            // Beside a blank cell 47 nothing is right.
+            (49, _) if draft.is_blank(47) && self.rng.one_in(2) => underlying::any_index_term(&mut self.rng),
+            _ => values::malformed(&mut self.rng, cell),
+        };
+        draft.spoil(cell, value);
+        if cell == 47 && draft.is_spoilt(49) {
+            self.malform(draft, 49);
         }
     }
 

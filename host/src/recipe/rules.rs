@@ -7,6 +7,7 @@ use super::draft::{
     date, day_between, days_before, earliest, latest, Draft, Instrument, Maker, Want, NO_DEAL, PARTIES,
 };
 use super::rng::{CAPITALS, CODE, DIGITS};
+use super::underlying::{self, Kind, Size};
 use super::values::{badly_shaped, scheme, well_shaped};
 use super::world::{Venue, ANY_STATUS, NOT_LAPSED};
 
@@ -53,7 +54,8 @@ const READS: &[(&[u16], &[usize])] = &[
     (&[380], &[38, 43]),
     (&[440], &[28, 44]),
     (&[451], &[28, 45]),
-    (&[473], &[43, 47]),
+    (&[470], &[47]),
+    (&[473], &[43, 47, 48]),
     (&[480, 481], &[43, 48]),
     (&[490], &[43, 49]),
     (&[500, 501, 502], &[43, 50]),
@@ -132,6 +134,7 @@ impl Maker {
             520 => self.currency_rule(code, 52, hit),
             331 | 351 => self.list_rule(code, hit),
             541 | 552 => self.date_rule(code, hit),
+            470 => self.check_digit_rule(hit),
             _ => {
                 let pattern = self.rng.of(patterns(code));
                 self.class_rule(code, pattern, hit)
@@ -566,9 +569,63 @@ impl Maker {
         (draft, codes(code, hit))
     }
 
+    /// 470: whatever the classification, though a swap by it asks for legs of a swap.
+    fn check_digit_rule(&mut self, hit: bool) -> (Draft, Vec<u16>) {
+        let mut draft = self.clean(Want::default());
+        self.set_underlying(&mut draft, Size::Any);
+        if hit {
+            let kind = Kind::of(draft.get(47)).expect("a well formed cell 47");
+            let value = underlying::with_wrong_check_digit(&mut self.rng, kind);
+            draft.set(47, value);
+        }
+        (draft, codes(470, hit))
+    }
+
+    /// 473: a swap by its classification that is none by cell 47, or has neither a leg nor an index; or just has one
+    /// of the two, or another classification.
+    fn swap_rule(&mut self, pattern: &str, hit: bool) -> (Draft, Vec<u16>) {
+        let enough = !hit && self.rng.one_in(2);
+        let swap = hit || enough;
+        let class = if swap { class_of(&mut self.rng, pattern) } else { class_beside(&mut self.rng, pattern) };
+        let mut draft = self.clean(Want { instrument: Some(Instrument::Class(class)), ..Want::default() });
+        let needs = needs(class);
+        if !enough {
+            self.set_no_swap(&mut draft, &needs);
+            return (draft, codes(473, needs.swap));
+        }
+        let value = if self.rng.one_in(2) {
+            draft.blank(48);
+            underlying::with_legs(&mut self.rng, Kind::Swap, Size::Any)
+        } else {
+            draft.set(48, self.rng.of(&["DAX", " ", "{0:DAX 30}"]));
+            underlying::without_legs(&mut self.rng, Kind::Swap, Size::Any)
+        };
+        self.put_underlying(&mut draft, value);
+        (draft, Vec::new())
+    }
+
+    /// Cell 47 as a swap may not have it: blank, of the other kind, or without a leg while no index is named. Other
+    /// classifications may ask for cells 48 and 49.
+    fn set_no_swap(&mut self, draft: &mut Draft, needs: &Needs) {
+        let rng = &mut self.rng;
+        let value = match rng.below(4) {
+            0 if needs.index_term != Need::Must => Vec::new(),
+            1 if needs.index_name != Need::Must => {
+                draft.blank(48);
+                underlying::without_legs(rng, Kind::Swap, Size::Any)
+            }
+            2 => underlying::without_legs(rng, Kind::Other, Size::Short),
+            _ => underlying::with_legs(rng, Kind::Other, Size::Any),
+        };
+        self.put_underlying(draft, value);
+    }
+
     /// The rules by classification: a class of a pattern, or one beside it, and the cell as the rule does not
     /// want it.
     pub fn class_rule(&mut self, code: u16, pattern: &str, hit: bool) -> (Draft, Vec<u16>) {
+        if code == 473 {
+            return self.swap_rule(pattern, hit);
+        }
         let of = |class| Want { instrument: Some(Instrument::Class(class)), ..Want::default() };
         // Without a violation: often the class beside, sometimes the class itself and all as it should be.
         if !hit && self.rng.one_in(4) {
@@ -581,10 +638,6 @@ impl Maker {
             330 => {
                 self.set_units_at_percent(&mut draft);
                 codes(330, needs.debt)
-            }
-            473 => {
-                draft.set(47, self.rng.of(&["", "OTHR:", "OTHR:{0: AT0000A1KVF2}", "OTHR:SWAP:"]));
-                codes(473, needs.swap)
             }
             502 => self.set_other_type(&mut draft, &needs),
             560 => {
@@ -602,6 +655,10 @@ impl Maker {
             _ => {
                 let (cell, need) = needs.cell(code);
                 draft.blank(cell);
+                // A swap beside the pattern may have gone without a leg.
+                if cell == 48 && needs.swap {
+                    self.set_underlying(&mut draft, Size::Short);
+                }
                 codes(code, need == Need::Must)
             }
         };

@@ -1,6 +1,7 @@
 //! Values for single cells: well formed ones at the edge of their form, and malformed ones just beyond it.
 
 use super::rng::{Rng, ALPHANUMERIC, CAPITALS, CODE, DIGITS};
+use super::underlying::{self, Size};
 use super::world::{make_isin, make_lei, with_check_digit};
 
 /// Cells that a new report needs.
@@ -442,7 +443,18 @@ fn well_amount(rng: &mut Rng, cell: usize) -> Vec<u8> {
     }
 }
 
-/// A well formed value of a cell, not blank, often at the edge of its form. What rules say of it is open.
+/// Cell 47.
+fn well_underlying(rng: &mut Rng) -> Vec<u8> {
+    let kind = rng.of(&underlying::KINDS);
+    match rng.below(4) {
+        0 => underlying::without_legs(rng, kind, Size::Any),
+        1 => underlying::with_wrong_check_digit(rng, kind),
+        _ => underlying::with_legs(rng, kind, Size::Any),
+    }
+}
+
+/// A well formed value of a cell, not blank, often at the edge of its form. What rules say of it is open, and what
+/// cell 47 makes of cell 49.
 pub fn well_formed(rng: &mut Rng, cell: usize) -> Vec<u8> {
     match cell {
         2 | 3 => well(rng, CODE, 52),
@@ -468,14 +480,12 @@ pub fn well_formed(rng: &mut Rng, cell: usize) -> Vec<u8> {
         11 | 15 | 20 | 24 | 54 | 55 => rng.of(WELL_DATES).as_bytes().to_vec(),
         28 => well_moment(rng),
         41 => make_isin(rng).to_vec(),
-        47 => {
-            let length = rng.of(&[0, 0, 1, 20, 400]);
-            [rng.of(&["SWAP:", "OTHR:"]).as_bytes(), &rng.text(b" ~+-{0:}DAX,;", length)].concat()
-        }
-        48 | 49 => {
+        47 => well_underlying(rng),
+        48 => {
             let length = rng.of(&[1, 2, 20, 400]);
             rng.text(b" ~+-{0:}#MNTH", length)
         }
+        49 => underlying::any_index_term(rng),
         30 | 33 | 35 | 38 | 46 | 51 => well_amount(rng, cell),
         _ => rng.of(words(cell)).as_bytes().to_vec(),
     }
@@ -519,18 +529,8 @@ fn bad_isin(rng: &mut Rng) -> Vec<u8> {
     isin.to_vec()
 }
 
-/// Cell 47.
-fn bad_underlying(rng: &mut Rng) -> Vec<u8> {
-    if rng.one_in(4) {
-        let wrong = ["SWAP", "OTHR", "swap:", "SWAP;", "SWP:", ":", "{0:DE0005557508}", "SWAP :", "OTHRE:"];
-        return rng.of(&wrong).as_bytes().to_vec();
-    }
-    let kind = rng.of(&["SWAP:", "OTHR:"]);
-    [kind.as_bytes(), &bad_index_text(rng)].concat()
-}
-
-/// Cells 48 and 49.
-fn bad_index_text(rng: &mut Rng) -> Vec<u8> {
+/// Cell 48, and cell 49 whatever cell 47 holds.
+pub fn bad_index_text(rng: &mut Rng) -> Vec<u8> {
     if rng.one_in(3) {
         let length = rng.of(&[401, 401, 405]);
         return rng.text(CODE, length);
@@ -606,7 +606,7 @@ fn with_blank(rng: &mut Rng, cell: usize) -> Vec<u8> {
     }
 }
 
-/// A malformed value of a cell; now and then blank, where the cell is needed.
+/// A malformed value of a cell, whatever the others hold; now and then blank, where the cell is needed.
 pub fn malformed(rng: &mut Rng, cell: usize) -> Vec<u8> {
     if NEEDED.contains(&cell) && rng.one_in(5) {
         return Vec::new();
@@ -629,7 +629,7 @@ pub fn malformed(rng: &mut Rng, cell: usize) -> Vec<u8> {
         11 | 15 | 20 | 24 | 54 | 55 => rng.of(BAD_DATES).as_bytes().to_vec(),
         28 => bad_moment(rng),
         41 => bad_isin(rng),
-        47 => bad_underlying(rng),
+        47 => underlying::bad_underlying(rng),
         48 | 49 => bad_index_text(rng),
         30 | 33 | 35 | 38 | 46 | 51 => bad_amount(rng, cell),
         _ => bad_word(rng, cell),
