@@ -149,7 +149,7 @@ impl Recipe {
         (self.maker.case(&draft), Intent::Exactly(codes))
     }
 
-    /// The next mistake in cell 47 or 49 in turn, and a line without one by turns.
+    /// The next mistake in cell 47 or 49 in turn, now and then none.
     fn underlying(&mut self) -> (Case, Intent) {
         let turn = self.mistakes;
         self.mistakes += 1;

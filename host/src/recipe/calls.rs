@@ -86,15 +86,21 @@ impl Maker {
         }
     }
 
-    /// The next mistake in cell 47 or 49 by turns, in texts of both kinds; every other time there is none.
+    /// The next mistake in cell 47 or 49 by turns, in texts of both kinds; every fourth time there is none, or only a
+    /// wrong check digit.
     pub fn underlying_form(&mut self, turn: usize) -> (Case, Intent) {
         let mut draft = self.clean(Want::default());
-        let (which, rest) = (turn / 2 % underlying::MISTAKE_COUNT, turn / 2 / underlying::MISTAKE_COUNT);
+        let made = turn - turn / 4;
+        let (which, rest) = (made % underlying::MISTAKE_COUNT, made / underlying::MISTAKE_COUNT);
         let (cell, kind) = ([47, 49][rest % 2], underlying::KINDS[rest / 2 % 2]);
         self.set_underlying(&mut draft, Size::Any);
-        if turn % 2 == 1 {
+        if turn % 4 == 3 {
             self.set_index_term(&mut draft, Size::Any);
-            return (self.case(&draft), Intent::Exactly(Vec::new()));
+            let wrong = turn % 8 == 7;
+            if wrong {
+                self.set_wrong_check_digit(&mut draft);
+            }
+            return (self.case(&draft), Intent::Exactly(if wrong { vec![470] } else { Vec::new() }));
         }
         if cell == 47 {
             let value = underlying::mistaken_underlying(&mut self.rng, kind, which);

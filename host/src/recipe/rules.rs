@@ -574,11 +574,16 @@ impl Maker {
         let mut draft = self.clean(Want::default());
         self.set_underlying(&mut draft, Size::Any);
         if hit {
-            let kind = Kind::of(draft.get(47)).expect("a well formed cell 47");
-            let value = underlying::with_wrong_check_digit(&mut self.rng, kind);
-            draft.set(47, value);
+            self.set_wrong_check_digit(&mut draft);
         }
         (draft, codes(470, hit))
+    }
+
+    /// Another text in cell 47, of the same kind, in which a check digit is wrong.
+    pub fn set_wrong_check_digit(&mut self, draft: &mut Draft) {
+        let kind = Kind::of(draft.get(47)).expect("a well formed cell 47");
+        let value = underlying::with_wrong_check_digit(&mut self.rng, kind);
+        draft.set(47, value);
     }
 
     /// 473: a swap by its classification that is none by cell 47, or has neither a leg nor an index; or just has one
@@ -634,12 +639,19 @@ impl Maker {
         }
         let class = if hit { class_of(&mut self.rng, pattern) } else { class_beside(&mut self.rng, pattern) };
         let (needs, mut draft) = (needs(class), self.clean(of(class)));
-        let found = match code {
+        let found = self.set_unwanted(code, &mut draft, &needs);
+        assert!(!hit || found == [code], "{code}: {found:?}");
+        (draft, found)
+    }
+
+    /// Sets the cell as the rule does not want it, and tells what comes of it with this classification.
+    fn set_unwanted(&mut self, code: u16, draft: &mut Draft, needs: &Needs) -> Vec<u16> {
+        match code {
             330 => {
-                self.set_units_at_percent(&mut draft);
+                self.set_units_at_percent(draft);
                 codes(330, needs.debt)
             }
-            502 => self.set_other_type(&mut draft, &needs),
+            502 => self.set_other_type(draft, needs),
             560 => {
                 let wanted = needs.wanted_delivery.unwrap_or("");
                 let delivery = self.rng.of_those(&["", "PHYS", "CASH", "OPTL"], |d| *d != wanted).expect("another");
@@ -648,7 +660,7 @@ impl Maker {
             }
             481 | 501 | 511 | 531 | 542 | 551 => {
                 let (cell, need) = needs.cell(code);
-                let value = self.filling(cell, &needs, draft.t);
+                let value = self.filling(cell, needs, draft.t);
                 draft.set(cell, value);
                 codes(code, need == Need::Never)
             }
@@ -657,13 +669,11 @@ impl Maker {
                 draft.blank(cell);
                 // A swap beside the pattern may have gone without a leg.
                 if cell == 48 && needs.swap {
-                    self.set_underlying(&mut draft, Size::Short);
+                    self.set_underlying(draft, Size::Short);
                 }
                 codes(code, need == Need::Must)
             }
-        };
-        assert!(!hit || found == [code], "{code}: {found:?}");
-        (draft, found)
+        }
     }
 
     /// 502: another option type than the classification wants.

@@ -140,6 +140,18 @@ impl Text {
         }
     }
 
+    /// Makes it have every mark that a text of its kind can have: two legs of a swap, two items in a basket.
+    fn widen(&mut self, rng: &mut Rng) {
+        if self.kind == Kind::Swap {
+            self.pair_legs();
+        }
+        let holds = self.holds;
+        let leg = self.some_leg(rng);
+        if leg.items.len() == 1 {
+            leg.items = items(rng, holds, 2);
+        }
+    }
+
     fn isins(&mut self) -> Vec<&mut Vec<u8>> {
         self.legs.iter_mut().flat_map(|leg| &mut leg.items).map(|item| &mut item.held).collect()
     }
@@ -279,18 +291,18 @@ pub fn with_wrong_check_digit(rng: &mut Rng, kind: Kind) -> Vec<u8> {
     let in_first_leg = text.legs[0].items.len();
     let mut isins = text.isins();
     let count = isins.len();
-    let wrong = match rng.below(6) {
+    let wrong = match rng.below(7) {
         0 => 0..1,
-        1 => count - 1..count,
-        2 if count > 2 => {
+        1 | 2 => count - 1..count,
+        3 if count > 2 => {
             let between = rng.between(1, count - 2);
             between..between + 1
         }
-        3 if in_first_leg < count => {
+        4 if in_first_leg < count => {
             let behind = rng.between(in_first_leg, count - 1);
             behind..behind + 1
         }
-        4 => 0..count,
+        5 => 0..count,
         _ => {
             let any = rng.below(count);
             any..any + 1
@@ -306,10 +318,38 @@ pub fn with_wrong_check_digit(rng: &mut Rng, kind: Kind) -> Vec<u8> {
 type Mistake = fn(&mut Rng, Text) -> Vec<u8>;
 
 /// Each gives a malformed text of either kind, for either cell.
-const MISTAKES: [Mistake; 23] = [
-    same_signs, leg_too_many, wrong_sign, empty_basket, item_too_many, index_too_long, no_index, index_repeated,
-    index_falling, wrong_held, wrong_held, held_of_the_other_cell, mark_missing, mark_missing, mark_twice, other_mark,
-    stray_mark, more_behind, stray_space, stray_space, space_at_an_end, other_space, strange_byte,
+const MISTAKES: [Mistake; 31] = [
+    same_signs,
+    leg_too_many,
+    wrong_sign,
+    empty_basket,
+    item_too_many,
+    index_too_long,
+    no_index,
+    index_repeated,
+    index_falling,
+    wrong_held,
+    wrong_held,
+    held_of_the_other_cell,
+    mark_missing,
+    mark_missing,
+    mark_twice,
+    other_mark,
+    stray_comma,
+    stray_semicolon,
+    more_behind,
+    |rng, text| space_beside(rng, text, b"}", b""),
+    |rng, text| space_beside(rng, text, b",", b""),
+    |rng, text| space_beside(rng, text, b";", b""),
+    |rng, text| space_beside(rng, text, b":", b""),
+    |rng, text| space_beside(rng, text, b"", b"{"),
+    |rng, text| space_beside(rng, text, b"", b"+-"),
+    |rng, text| space_beside(rng, text, b"#", b"#"),
+    |rng, text| space_beside(rng, text, b"", b""),
+    space_in_front,
+    space_at_the_end,
+    other_space,
+    strange_byte,
 ];
 
 /// How many mistakes there are to be made in turn. The last is a text that is too long.
@@ -438,7 +478,7 @@ fn index_too_long(rng: &mut Rng, mut text: Text) -> Vec<u8> {
 }
 
 fn no_index(rng: &mut Rng, mut text: Text) -> Vec<u8> {
-    text.some_item(rng).index = rng.of(&["", "", "", "A", "1A", "+1", "-1", "1.", "0x1", "#"]).to_string();
+    text.some_item(rng).index = rng.of(&["", "", "", "", "", "A", "1A", "+1", "-1", "#"]).to_string();
     text.loosely(rng)
 }
 
@@ -540,15 +580,20 @@ fn other_mark(rng: &mut Rng, text: Text) -> Vec<u8> {
     bytes
 }
 
-/// A mark too many: in front of the first leg, behind the last, or within the braces at an end.
-fn stray_mark(rng: &mut Rng, text: Text) -> Vec<u8> {
+/// A comma too many: in front of the first item or behind the last.
+fn stray_comma(rng: &mut Rng, text: Text) -> Vec<u8> {
     let mut bytes = text.loosely(rng);
-    let ends = |place: &usize| {
-        let before = if *place > 0 { bytes[place - 1] } else { b':' };
-        *place == text.word().len() || *place == bytes.len() || before == b'{' || bytes[*place] == b'}'
-    };
-    let places: Vec<usize> = (0..=bytes.len()).filter(ends).collect();
-    bytes.insert(rng.of(&places), rng.of(b",;:{}#"));
+    let places: Vec<usize> =
+        (1..bytes.len()).filter(|&place| bytes[place - 1] == b'{' || bytes[place] == b'}').collect();
+    bytes.insert(rng.of(&places), b',');
+    bytes
+}
+
+/// A semicolon too many: in front of the first leg or behind the last.
+fn stray_semicolon(rng: &mut Rng, text: Text) -> Vec<u8> {
+    let mut bytes = text.loosely(rng);
+    let place = if rng.one_in(3) { text.word().len() } else { bytes.len() };
+    bytes.insert(place, b';');
     bytes
 }
 
@@ -558,34 +603,33 @@ fn more_behind(rng: &mut Rng, text: Text) -> Vec<u8> {
     [&text.loosely(rng), more].concat()
 }
 
-/// A space beside a mark behind which none may stand, or in front of any, or within a piece.
-fn stray_space(rng: &mut Rng, text: Text) -> Vec<u8> {
+/// A space directly in front of one of these marks or behind it, where none may stand; anywhere where there is no such place.
+fn space_beside(rng: &mut Rng, mut text: Text, in_front_of: &[u8], behind: &[u8]) -> Vec<u8> {
+    text.widen(rng);
     let mut bytes = text.loosely(rng);
     let barred: Vec<usize> =
         (0..=bytes.len()).filter(|&place| place == 0 || !b":,; ".contains(&bytes[place - 1])).collect();
-    let mark = rng.of(MARKS);
-    let (behind, in_front) =
-        (|place: usize| place > 0 && bytes[place - 1] == mark, |place| bytes.get(place) == Some(&mark));
-    let chosen = rng.of_those(&barred, |&place| behind(place) || in_front(place));
+    let follows = |place: usize| place > 0 && behind.contains(&bytes[place - 1]);
+    let precedes = |place: usize| bytes.get(place).is_some_and(|next| in_front_of.contains(next));
+    let chosen = rng.of_those(&barred, |&place| follows(place) || precedes(place));
     let place = chosen.unwrap_or_else(|| rng.of(&barred));
     bytes.insert(place, b' ');
     bytes
 }
 
-fn space_at_an_end(rng: &mut Rng, text: Text) -> Vec<u8> {
-    let bytes = text.loosely(rng);
-    if rng.one_in(2) {
-        [&bytes[..], b" "].concat()
-    } else {
-        [b" ", &bytes[..]].concat()
-    }
+fn space_in_front(rng: &mut Rng, text: Text) -> Vec<u8> {
+    [b" ", &text.loosely(rng)[..]].concat()
+}
+
+fn space_at_the_end(rng: &mut Rng, text: Text) -> Vec<u8> {
+    [&text.loosely(rng)[..], b" "].concat()
 }
 
 /// A byte that is no space where a space may stand.
 fn other_space(rng: &mut Rng, text: Text) -> Vec<u8> {
     let mut bytes = text.loosely(rng);
     let places: Vec<usize> = (1..=bytes.len()).filter(|&place| b":,;".contains(&bytes[place - 1])).collect();
-    bytes.insert(rng.of(&places), rng.of(b"\t\t\0\n\r\x0b\x1f!_\xa0"));
+    bytes.insert(rng.of(&places), rng.of(b"\t\t\t\t\0\n\r\x0b\x1f!_\xa0"));
     bytes
 }
 
