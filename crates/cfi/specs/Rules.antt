@@ -10,7 +10,8 @@ use Rattle.text.specs.Class.{is}
 use Rattle.text.specs.Shape.{shape}
 
 -- What a cell holds is told by a number: 1 where it is blank, from 2 on where it is present, its values counted as the paper lists them
--- (30: UNT NOM MON, 33: PNDG NOAP PC MV YLD BP, 47: SWAP OTHR, 50: PUTO CALL OTHR, 56: PHYS CASH OPTL); 0 where it is none of these
+-- (30: UNT NOM MON, 33: PNDG NOAP PC MV YLD BP, 47: SWAP OTHR and a SWAP that names nothing, 50: PUTO CALL OTHR, 56: PHYS CASH
+-- OPTL); 0 where it is none of these
 abbrev pub UNT : ℕ
 UNT = 2
 
@@ -52,7 +53,7 @@ pub data Fault : Type 0 where
   Present : Fault
   -- "50 present but not CALL"
   PresentNot : ℕ → Fault
-  -- "47 not SWAP", which a blank cell is too
+  -- "47 not SWAP", which a blank cell is too, and a SWAP that names nothing
   Not : ℕ → Fault
   -- "30 UNT, 33 PC"
   UnitsAnd : ℕ → Fault

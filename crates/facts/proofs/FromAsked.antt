@@ -7,12 +7,13 @@ use Rattle.cells.specs.Cells.{cell}
 use Rattle.ident.specs.Person.{countryOf}
 use Rattle.ident.specs.Party.{allowed7, allowed12, partyOf, isLei, isMic, isPerson}
 use Rattle.ident.specs.declared.parties.Allowed.{Allowed}
+use Rattle.baskets.specs.Underlying.{underlyingOf}
 use Rattle.calendar.specs.Dates.{dateOf}
 use Rattle.forms.specs.Read.{readOf}
 use Rattle.lists.specs.Lookups.{countryKnown, venueRows, instrumentRows}
 use Rattle.lists.proofs.CfiLaws.{debt-violates, bond-violates}
 use Rattle.facts.specs.Call.{Call}
-use Rattle.facts.specs.Words.{present, off, momentIn, momentOf, dayOf, leiGood, countryWrong, kind1, kind3, kindOf, partIn, partyLeiWrong, partyCountryWrong, partyMicWrong, partyShapeWrong, birthWrong, isLate, isPast, isEntity}
+use Rattle.facts.specs.Words.{present, off, momentIn, momentOf, dayOf, leiGood, countryWrong, kind1, kind3, kindOf, partIn, partyLeiWrong, partyCountryWrong, partyMicWrong, partyShapeWrong, birthWrong, isLate, isPast, isEntity, isinWrong}
 use Rattle.facts.specs.Asked.{partyAsked, partiesAsked, askedOf}
 use Rattle.facts.specs.Rules.{T, standingOf, holdings}
 use Rattle.facts.specs.Facts.{partyFrom, partyFactsOf, partiesFrom, partiesOf, timeFrom, timeOf, tradeWith, tradeFrom, tradeOf, factsWith, factsFrom, askedIn, factsOf}
@@ -59,10 +60,13 @@ day-from line = refl
 pub trade-day-from : (c : Call) → momentIn (readOf (c .line) .moment) .day ≡ T c
 trade-day-from c = day-from (c .line)
 
-trade-from : (line ven ins kinds : List ℕ) (t : ℕ) → tradeFrom line (venueRows ven (cell line 36) t) (instrumentRows ins (cell line 41) t) kinds ≡ tradeOf line ven ins kinds t
-unfolding tradeFrom tradeOf
+trade-from :
+    (line ven ins kinds : List ℕ) (t : ℕ)
+    → tradeFrom line (venueRows ven (cell line 36) t) (instrumentRows ins (cell line 41) t) kinds (readOf line .underlying) ≡ tradeOf line ven ins kinds t
+unfolding tradeFrom tradeOf readOf underlyingOf isinWrong
 trade-from line ven ins kinds t =
     λ i. tradeWith line (venueRows ven (cell line 36) t) (instrumentRows ins (cell line 41) t) (sym (debt-violates kinds ins (cell line 41) t) i) (sym (bond-violates kinds ins (cell line 41) t) i)
+    (isinWrong (cell line 47))
 
 pub facts-from : (c : Call) → factsFrom (c .line) (readOf (c .line)) (askedIn c) (standingOf c) (c .day) (c .micro) ≡ factsOf c
 unfolding factsFrom factsOf askedOf

@@ -8,6 +8,7 @@ use Rattle.text.specs.Word.{blank, same}
 use Rattle.cells.specs.Cells.{cell}
 use Rattle.calendar.specs.declared.dates.Date.{Date}
 use Rattle.calendar.specs.declared.moments.Moment.{Moment}
+use Rattle.baskets.specs.declared.underlying.Underlying.{Underlying}
 use Rattle.amount.specs.Price.{priceKind}
 use Rattle.amount.specs.Quantity.{quantityKind}
 use Rattle.amount.specs.declared.Price.{Price}
@@ -111,9 +112,9 @@ quantityHeld s quantity = cond (blank s) 1 (quantityKind quantity)
 unfoldable pub priceHeld : List ℕ → Price → ℕ
 priceHeld s price = cond (blank s) 1 (priceKind price)
 
--- with the answers to 331 and 351
-abbrev pub tradeWith : List ℕ → VenueRows → InstrumentRows → Bool → Bool → TradeFacts
-tradeWith line venue rows debt bond =
+-- with the answers to 331, 351 and 470
+abbrev pub tradeWith : List ℕ → VenueRows → InstrumentRows → (debt bond wrong : Bool) → TradeFacts
+tradeWith line venue rows debt bond wrong =
     record {
       «no_code» = present (cell line 3) && (off (cell line 36) || venue .kind2 || venue .kind3);
       unknown = not (off (cell line 36)) && not (venue .kind1 || venue .kind2 || venue .kind3);
@@ -123,13 +124,14 @@ tradeWith line venue rows debt bond =
       branch = present (cell line 37) && (off (cell line 36) || venue .kind2);
       «debt_in_units» = debt;
       «bond_without_net» = bond;
-      «wrong_isin» = isinWrong (cell line 47);
+      «wrong_isin» = wrong;
     }
 
 -- `kinds` is what the cells hold
-unfoldable pub tradeFrom : List ℕ → VenueRows → InstrumentRows → List ℕ → TradeFacts
-tradeFrom line venue rows kinds =
+unfoldable pub tradeFrom : List ℕ → VenueRows → InstrumentRows → List ℕ → Underlying → TradeFacts
+tradeFrom line venue rows kinds underlying =
     tradeWith line venue rows (eqb (getD kinds 30 0) 2 && eqb (getD kinds 33 0) 4 && rows .debt) (eqb (getD kinds 35 0) 1 && rows .bond)
+    (not (underlying .right))
 
 -- 251, 290 and 570; `entity` says whether one of the parties is the executing entity
 unfoldable pub dealOf : List ℕ → Bool → DealFacts
@@ -161,7 +163,7 @@ factsWith parties time trade line asked standing =
 unfoldable pub factsFrom : List ℕ → Read → Asked → Standing → ℕ → ℕ → Facts
 factsFrom line read asked standing day micro =
     factsWith (partiesFrom line read (asked .parties) (momentIn (read .moment) .day)) (timeFrom line read day micro)
-    (tradeFrom line (asked .venue) (asked .instrument) (holdings line)) line asked standing
+    (tradeFrom line (asked .venue) (asked .instrument) (holdings line) (read .underlying)) line asked standing
 
 -- In the words of the rules, which read every cell for themselves and do not say that a list is read only for the kind that it is of
 
@@ -198,7 +200,7 @@ timeOf line moment day micro =
 unfoldable pub tradeOf : List ℕ → List ℕ → List ℕ → List ℕ → ℕ → TradeFacts
 tradeOf line ven ins kinds t =
     tradeWith line (venueRows ven (cell line 36) t) (instrumentRows ins (cell line 41) t) (someViolates 330 kinds ins (cell line 41) t)
-    (someViolates 350 kinds ins (cell line 41) t)
+    (someViolates 350 kinds ins (cell line 41) t) (isinWrong (cell line 47))
 
 -- what the lists of a call say
 abbrev pub askedIn : Call → Asked

@@ -86,7 +86,7 @@ holdings line =
     33 (heldPrice (cell line 33)))
     35 (heldAtAll (cell line 35)))
     38 (heldAtAll (cell line 38)))
-    47 (heldSwap (cell line 47)))
+    47 (heldSwap (cell line 47) (cell line 48)))
     48 (heldAtAll (cell line 48)))
     49 (heldAtAll (cell line 49)))
     50 (heldWord (ascii "PUTO") (ascii "CALL") (ascii "OTHR") (cell line 50)))

@@ -20,6 +20,12 @@ use Rattle.ident.specs.Person.{countryOf, concatDay}
 use Rattle.ident.specs.Party.{partyOf, partOf, isLei, isMic, isConcat, isPerson}
 use Rattle.ident.specs.declared.parties.Allowed.{Allowed}
 use Rattle.ident.specs.declared.parties.Identifier.{Identifier}
+use Rattle.baskets.specs.Items.{allRight}
+use Rattle.baskets.specs.Underlying.{isinsIn, underlyingOf}
+use Rattle.baskets.specs.declared.items.Holds.the-variants.{Isin}
+use Rattle.baskets.specs.declared.legs.Kind.{Kind}
+use Rattle.baskets.specs.declared.legs.Kind.the-variants.{Swap, Other, Malformed}
+use Rattle.baskets.specs.declared.underlying.Underlying.{Underlying}
 use Rattle.amount.specs.Price.{priceOf, priceKind}
 use Rattle.amount.specs.Quantity.{quantityOf, quantityKind}
 use Rattle.lists.specs.Lookups.{leiRows, countryKnown, currencyRows, venueRows}
@@ -153,7 +159,7 @@ secondCurrency s = cond (startsWith (ascii "FX:") s) (drop 3 s) (cond (startsWit
 
 -- 470: some ISIN of cell 47 has a wrong check digit
 unfoldable pub isinWrong : List ℕ → Bool
-isinWrong s = false
+isinWrong s = not (allRight Isin (isinsIn s))
 
 -- 280: not before the submission moment
 unfoldable pub notBefore : Moment → ℕ → ℕ → Bool
@@ -177,6 +183,15 @@ heldQuantity s = cond (blank s) 1 (quantityKind (quantityOf s))
 unfoldable pub heldPrice : List ℕ → ℕ
 heldPrice s = cond (blank s) 1 (priceKind (priceOf s))
 
--- 47: SWAP: or OTHR:
-unfoldable pub heldSwap : List ℕ → ℕ
-heldSwap s = cond (blank s) 1 (cond (startsWith (ascii "SWAP:") s) 2 3)
+-- 47: SWAP: or OTHR:; last a SWAP: that has no leg while 48 is blank, which 473 does not take for one
+abbrev pub kindHeld : Kind → Bool → ℕ
+kindHeld Swap empty = cond empty 4 2
+kindHeld Other empty = 3
+kindHeld Malformed empty = 0
+
+-- by cell 47, what was read of it, and cell 48
+abbrev pub swapHeld : List ℕ → Underlying → List ℕ → ℕ
+swapHeld s underlying name = cond (blank s) 1 (kindHeld (underlying .kind) (not (underlying .legs) && blank name))
+
+unfoldable pub heldSwap : List ℕ → List ℕ → ℕ
+heldSwap s name = swapHeld s (underlyingOf s) name

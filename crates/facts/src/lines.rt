@@ -144,6 +144,7 @@ pub fn line_facts<'a, 't>(
     let asked_money = asked.money;
     let venue = asked.venue;
     let instrument = asked.instrument;
+    let underlying = read.underlying;
     let parties = parties_facts(line, starts, ends, read, asked_parties, t);
     let buyer = parties.buyer;
     let seller = parties.seller;
@@ -160,7 +161,7 @@ pub fn line_facts<'a, 't>(
         time: time_facts(line, starts, ends, read, day, micro),
         deal: deal_facts(line, starts, ends, own),
         money: money_facts(line, starts, ends, asked_money),
-        trade: trade_facts(line, starts, ends, venue, instrument, &held),
+        trade: trade_facts(line, starts, ends, venue, instrument, &held, underlying),
         cfi: cfi::cfi_findings(&held, cells::cell(line, starts, ends, 43)),
     }
 }

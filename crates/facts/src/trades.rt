@@ -2,12 +2,14 @@
 ghost use mathlib.Core.Path.{_≡_};
 ghost use Rattle.cells.specs.Split.{Tabled};
 ghost use Rattle.forms.specs.Read.{readOf};
-ghost use Rattle.facts.specs.Words.{heldAtAll, heldWord, heldSwap, isinWrong};
+ghost use Rattle.facts.specs.Words.{heldAtAll, heldWord, kindHeld, swapHeld};
 ghost use Rattle.facts.specs.Rules.{holdings};
 ghost use Rattle.facts.specs.Facts.{quantityHeld, priceHeld, tradeFrom};
 use crate::parties::is_off;
 use amount::Price;
 use amount::Quantity;
+use baskets::Kind;
+use baskets::Underlying;
 use forms::Read;
 use lists::InstrumentRows;
 use lists::VenueRows;
@@ -27,15 +29,8 @@ pub struct TradeFacts {
     pub wrong_isin: bool,
 }
 
-// Stands in for the reading of the baskets of cell 47.
-fn isin_wrong(s: &[u8]) -> bool
-    ensures { λ r. ⌜ r ≡ isinWrong (now (s .entry)) ⌝ }
-{
-    false
-}
-
-// The cells of a trade that the venue's and the instrument's rules read, and 470: 3, 25, 36, 37 and 47, with what the lists say of 36 and 41 and what
-// the others hold: 331 is units (2) in 30 and percent (4) in 33, 351 a blank (1) in 35.
+// The cells of a trade that the venue's and the instrument's rules read: 3, 25, 36 and 37, with what the lists say of 36 and 41 and what the others
+// hold: 331 is units (2) in 30 and percent (4) in 33, 351 a blank (1) in 35. And what was read of 47.
 pub fn trade_facts<'a, 't>(
     line: &'a [u8],
     starts: &'t [usize; 65],
@@ -43,9 +38,10 @@ pub fn trade_facts<'a, 't>(
     venue: VenueRows,
     rows: InstrumentRows,
     held: &[u8; 66],
+    underlying: Underlying,
 ) -> TradeFacts
     requires { ⌜ Tabled (now line) (now starts) (now ends) ⌝ }
-    ensures { λ r. ⌜ r ≡ tradeFrom (now (line .entry)) venue rows (now (held .entry)) ⌝ }
+    ensures { λ r. ⌜ r ≡ tradeFrom (now (line .entry)) venue rows (now (held .entry)) underlying ⌝ }
 {
     let c36 = cells::cell(line, starts, ends, 36);
     let off = is_off(c36);
@@ -60,7 +56,7 @@ pub fn trade_facts<'a, 't>(
         branch: branch & (off | venue.kind2),
         debt_in_units: (held[30] == 2) & (held[33] == 4) & rows.debt,
         bond_without_net: (held[35] == 1) & rows.bond,
-        wrong_isin: isin_wrong(cells::cell(line, starts, ends, 47)),
+        wrong_isin: !underlying.right,
     }
 }
 
@@ -110,16 +106,30 @@ fn held_price(s: &[u8], price: Price) -> u8
     amount::price_kind(price)
 }
 
-fn held_swap(s: &[u8]) -> u8
-    ensures { λ r. ⌜ r ≡ heldSwap (now (s .entry)) ⌝ }
+fn kind_held(kind: Kind, empty: bool) -> u8
+    ensures { λ r. ⌜ r ≡ kindHeld kind empty ⌝ }
+{
+    match kind {
+        Kind::Swap => {
+            if empty {
+                return 4;
+            }
+            2
+        }
+        Kind::Other => 3,
+        Kind::Malformed => 0,
+    }
+}
+
+// Of cell 47, by what was read of it and cell 48: a SWAP: that names nothing is not held for one.
+fn held_swap(s: &[u8], underlying: Underlying, name: &[u8]) -> u8
+    ensures { λ r. ⌜ r ≡ swapHeld (now (s .entry)) underlying (now (name .entry)) ⌝ }
 {
     if s.len() == 0 {
         return 1;
     }
-    if text::starts_with(s, b"SWAP:") {
-        return 2;
-    }
-    3
+    let kind = underlying.kind;
+    kind_held(kind, !underlying.legs & (name.len() == 0))
 }
 
 // What each cell holds that the rules by CFI ask for, by cell number.
@@ -134,13 +144,16 @@ pub fn holdings<'a, 't>(
 {
     let quantity = read.quantity;
     let price = read.price;
+    let underlying = read.underlying;
     let mut held = [0; 66];
     held[30] = held_quantity(cells::cell(line, starts, ends, 30), quantity);
     held[33] = held_price(cells::cell(line, starts, ends, 33), price);
     held[35] = held_at_all(cells::cell(line, starts, ends, 35));
     held[38] = held_at_all(cells::cell(line, starts, ends, 38));
-    held[47] = held_swap(cells::cell(line, starts, ends, 47));
-    held[48] = held_at_all(cells::cell(line, starts, ends, 48));
+    let c47 = cells::cell(line, starts, ends, 47);
+    let c48 = cells::cell(line, starts, ends, 48);
+    held[47] = held_swap(c47, underlying, c48);
+    held[48] = held_at_all(c48);
     held[49] = held_at_all(cells::cell(line, starts, ends, 49));
     held[50] = held_word(
         cells::cell(line, starts, ends, 50),

@@ -8,39 +8,42 @@ use Rattle.facts.specs.Rules.{goodCells}
 use Rattle.facts.specs.Facts.{partiesFrom, dealOf, countryFrom, tradeFrom, factsFrom}
 use borrow.Author.Needs.{needs}
 
+entity-facts-requires : tie.Need-entity-facts-requires
+entity-facts-requires c κs = (c .before .before .before .before .before .before .before .before .before .before .before .before .before .before .before .before .pre) .0
+
 cell-requires : tie.Need-cell-requires
-cell-requires c κs = (c .before .before .before .before .before .before .before .before .before .before .before .before .before .before .before .before .pre) .0
+cell-requires c κs = (c .before .before .before .before .before .before .before .before .before .before .before .before .before .before .before .before .before .pre) .0
 
 cell-requires-2 : tie.Need-cell-requires-2
-cell-requires-2 c κs = (c .before .before .before .before .before .before .before .before .before .before .before .before .before .before .before .before .before .before .pre) .0
+cell-requires-2 c κs = (c .before .before .before .before .before .before .before .before .before .before .before .before .before .before .before .before .before .before .before .pre) .0
 
 cell-requires-3 : tie.Need-cell-requires-3
-cell-requires-3 c κs = (c .before .before .before .before .before .before .before .before .before .before .before .before .before .before .before .before .before .before .before .before .pre) .0
+cell-requires-3 c κs = (c .before .before .before .before .before .before .before .before .before .before .before .before .before .before .before .before .before .before .before .before .before .pre) .0
 
 time-facts-requires : tie.Need-time-facts-requires
-time-facts-requires c κs = (c .before .before .before .before .before .before .before .before .before .before .before .before .before .before .before .before .before .before .before .before .before .before .pre) .0
+time-facts-requires c κs = (c .before .before .before .before .before .before .before .before .before .before .before .before .before .before .before .before .before .before .before .before .before .before .before .pre) .0
 
 deal-facts-requires : tie.Need-deal-facts-requires
-deal-facts-requires c κs = (c .before .before .before .before .before .before .before .before .before .before .before .before .before .before .before .before .before .before .before .before .before .before .before .pre) .0
+deal-facts-requires c κs = (c .before .before .before .before .before .before .before .before .before .before .before .before .before .before .before .before .before .before .before .before .before .before .before .before .pre) .0
 
 money-facts-requires : tie.Need-money-facts-requires
-money-facts-requires c κs = (c .before .before .before .before .before .before .before .before .before .before .before .before .before .before .before .before .before .before .before .before .before .before .before .before .pre) .0
+money-facts-requires c κs = (c .before .before .before .before .before .before .before .before .before .before .before .before .before .before .before .before .before .before .before .before .before .before .before .before .before .pre) .0
 
 trade-facts-requires : tie.Need-trade-facts-requires
-trade-facts-requires c κs = (c .before .before .before .before .before .before .before .before .before .before .before .before .before .before .before .before .before .before .before .before .before .before .before .before .before .before .pre) .0
+trade-facts-requires c κs = (c .before .before .before .before .before .before .before .before .before .before .before .before .before .before .before .before .before .before .before .before .before .before .before .before .before .before .before .pre) .0
 
 cell-requires-4 : tie.Need-cell-requires-4
-cell-requires-4 c κs = (c .before .before .before .before .before .before .before .before .before .before .before .before .before .before .before .before .before .before .before .before .before .before .before .before .before .before .before .before .pre) .0
+cell-requires-4 c κs = (c .before .before .before .before .before .before .before .before .before .before .before .before .before .before .before .before .before .before .before .before .before .before .before .before .before .before .before .before .before .pre) .0
 
 returns : tie.Need-returns
 unfolding factsFrom goodCells
 returns c =
-    let a = (c .before .before .before .before .before .before .before .before .before .before .before .before .before .before .before .before .before .before .before .before .before .before .before .before .before .before .before .before .before .before .args) in
+    let a = (c .before .before .before .before .before .before .before .before .before .before .before .before .before .before .before .before .before .before .before .before .before .before .before .before .before .before .before .before .before .before .before .args) in
     let l = a .line .now in
-    let parties = (c .before .before .before .before .before .before .before .before .before .before .before .before .before .before .before .before .before .before .before .before .before .before .parties-facts) .ensures ∙ ap (partiesFrom l (a .read) (a .asked .parties)) ((c .before .before .before .before .before .before .before .before .before .before .before .before .before .before .before .before .before .before .before .before .before .before .before .before .before .before .before .before .trade-day) .ensures) in
+    let parties = (c .before .before .before .before .before .before .before .before .before .before .before .before .before .before .before .before .before .before .before .before .before .before .parties-facts) .ensures ∙ ap (partiesFrom l (a .read) (a .asked .parties)) ((c .before .before .before .before .before .before .before .before .before .before .before .before .before .before .before .before .before .before .before .before .before .before .before .before .before .before .before .before .before .trade-day) .ensures) in
     let held = (c .before .before .before .before .before .before .before .before .before .before .before .before .before .before .before .before .before .holdings) .ensures in
     λ i. record {
-      ok = ((c .before .before .before .before .before .before .before .before .before .before .before .before .before .before .before .before .good-cells) .ensures ∙ (λ j. false ∷ map not ((c .before .before .before .before .before .before .before .before .before .before .before .before .before .before .before .before .before .before .before .before .before .before .before .before .before .before .before .before .before .before .pre) .1 j))) i;
+      ok = ((c .before .before .before .before .before .before .before .before .before .before .before .before .before .before .before .before .good-cells) .ensures ∙ (λ j. false ∷ map not ((c .before .before .before .before .before .before .before .before .before .before .before .before .before .before .before .before .before .before .before .before .before .before .before .before .before .before .before .before .before .before .before .pre) .1 j))) i;
       live = (c .before .before .before .before .before .before .before .before .before .before .before .before .before .before .before .is-live) .ensures i;
       entity = (c .before .before .before .before .before .before .before .before .before .before .before .before .before .before .entity-facts) .ensures i;
       parties = parties i;
@@ -50,7 +53,7 @@ returns c =
       time = (c .before .before .before .before .before .before .before .time-facts) .ensures i;
       deal = ((c .before .before .before .before .before .before .deal-facts) .ensures ∙ (λ j. dealOf l (parties j .buyer .entity || parties j .seller .entity))) i;
       money = (c .before .before .before .before .before .money-facts) .ensures i;
-      trade = ((c .before .before .before .trade-facts) .ensures ∙ (λ j. tradeFrom l (a .asked .venue) (a .asked .instrument) (held j))) i;
+      trade = ((c .before .before .before .trade-facts) .ensures ∙ (λ j. tradeFrom l (a .asked .venue) (a .asked .instrument) (held j) (a .read .underlying))) i;
       cfi = ((c .cfi-findings) .ensures ∙ (λ j. cfiFindings (held j) ((c .before .cell4) .ensures j))) i;
     }
 
@@ -63,7 +66,7 @@ line-facts-spec =
     (λ c κs. search needs)
     (λ c κs. search needs)
     (λ c κs. search needs)
-    (λ c κs. search needs)
+    entity-facts-requires
     cell-requires
     (λ c κs. search needs)
     cell-requires-2
