@@ -61,13 +61,13 @@ form-holds status first form s known e = ⊎-elim (λ k. as-new (rw k at e)) (λ
     as-cxl f = not-false (holds form s) (or-right (blank s) (not (holds form s)) f)
 
 module _ (line : List ℕ) (known : Known (statusOf (cell line 1))) where
-  entity-length : formFinding (statusOf (cell line 1)) 4 (cell line 4) ≡ false → length (cell line 4) ≡ 20
+  entity-length : formFinding (statusOf (cell line 1)) (cell line 47) 4 (cell line 4) ≡ false → length (cell line 4) ≡ 20
   unfolding formFinding formOf holds
   entity-length e =
       let h : holds Lei (cell line 4) ≡ true = form-holds (statusOf (cell line 1)) false Lei (cell line 4) known e in
       shape-length (ascii "nnnnnnnnnnnnnnnnnndd") (cell line 4) h
 
-  reference-length : formFinding (statusOf (cell line 1)) 2 (cell line 2) ≡ false → (1 ≤ length (cell line 2)) × (length (cell line 2) ≤ 52)
+  reference-length : formFinding (statusOf (cell line 1)) (cell line 47) 2 (cell line 2) ≡ false → (1 ≤ length (cell line 2)) × (length (cell line 2) ≤ 52)
   unfolding formFinding formOf holds
   reference-length e =
       let s : List ℕ = cell line 2 in
@@ -76,18 +76,18 @@ module _ (line : List ℕ) (known : Known (statusOf (cell line 1))) where
       (leb-true _ _ (and-left (leb 1 (length s)) (leb (length s) 52) both), leb-true _ _ (and-right (leb 1 (length s)) (leb (length s) 52) both))
 
   pub pair-shaped :
-      formFinding (statusOf (cell line 1)) 4 (cell line 4) ≡ false → formFinding (statusOf (cell line 1)) 2 (cell line 2) ≡ false
+      formFinding (statusOf (cell line 1)) (cell line 47) 4 (cell line 4) ≡ false → formFinding (statusOf (cell line 1)) (cell line 47) 2 (cell line 2) ≡ false
       → Shaped (cell line 4) (cell line 2)
   pair-shaped e f =
       let (least, most) = reference-length f in
       record { entity-length = entity-length e; some = least; most = most }
 
 -- cells 4 and 2 of a NEW or CXL line are good exactly if they have no finding
-pub good-4 : (line : List ℕ) → good line 4 ≡ not (formFinding (statusOf (cell line 1)) 4 (cell line 4))
+pub good-4 : (line : List ℕ) → good line 4 ≡ not (formFinding (statusOf (cell line 1)) (cell line 47) 4 (cell line 4))
 unfolding goodCells formFindings
 good-4 line = refl
 
-pub good-2 : (line : List ℕ) → good line 2 ≡ not (formFinding (statusOf (cell line 1)) 2 (cell line 2))
+pub good-2 : (line : List ℕ) → good line 2 ≡ not (formFinding (statusOf (cell line 1)) (cell line 47) 2 (cell line 2))
 unfolding goodCells formFindings
 good-2 line = refl
 
@@ -114,16 +114,16 @@ module _ (c : Call) (clear : clean c ≡ true) where
       bit-none (getD (allFlags c) i false)
       (sym (pick-once 0 codes (allFlags c) i codes-rise (omega (arith, code-count))) ∙ ap (times (getD codes i 0)) none-found)
 
-  status-found : (status : Status) (s : List ℕ) → formFinding status 1 s ≡ false → Known status
+  status-found : (status : Status) (underlying s : List ℕ) → formFinding status underlying 1 s ≡ false → Known status
   unfolding formFinding
-  status-found New s e = inl refl
-  status-found Cancellation s e = inr refl
-  status-found Neither s e = absurd (true≢false e)
+  status-found New underlying s e = inl refl
+  status-found Cancellation underlying s e = inr refl
+  status-found Neither underlying s e = absurd (true≢false e)
 
   -- it is NEW or CXL, and its pair has the right shape
   pub clean-known : Known (statusOf (cell (c .line) 1))
   unfolding allFlags flags formFindings
-  clean-known = status-found (statusOf (cell (c .line) 1)) (cell (c .line) 1) (no-flag ruleCount (lit< tt))
+  clean-known = status-found (statusOf (cell (c .line) 1)) (cell (c .line) 47) (cell (c .line) 1) (no-flag ruleCount (lit< tt))
 
   pub clean-4 : good (c .line) 4 ≡ true
   unfolding allFlags flags formFindings

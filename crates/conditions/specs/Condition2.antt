@@ -29,7 +29,7 @@ listed verdict findings = take (verdict .count) findings
 
 -- cell f is malformed, or blank though needed
 abbrev pub malformed : Call → ℕ → Bool
-malformed call f = formFinding (statusOf (cell (call .line) 1)) f (cell (call .line) f)
+malformed call f = formFinding (statusOf (cell (call .line) 1)) (cell (call .line) 47) f (cell (call .line) f)
 
 -- Of a call that is not refused, with the findings buffer before it, its verdict, and the findings and the register that it leaves
 pub record NotRefused (call : Call) (before : List ℕ) (verdict : Verdict) (findings left : List ℕ) : Type 0 where
