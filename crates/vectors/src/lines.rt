@@ -1,4 +1,4 @@
-// Cells and forms. A line is made from a base by putting something in the place of one of its cells.
+// Cells and forms. A line is made from a base by putting something in the place of one of its cells, or of several in a row.
 use crate::reading::SPACE;
 use crate::reading::UNKNOWN;
 use crate::reading::behind;
@@ -35,15 +35,18 @@ fn copied(out: &mut [u8; MOST], at: usize, s: &[u8]) -> usize {
     n
 }
 
-// The base with other bytes as its cell f, counted from 1; the answer is its length.
-fn with_cell(base: &[u8], f: usize, cell: &[u8], out: &mut [u8; MOST]) -> usize {
-    if f < 1 {
+// The base with other bytes as its cells from one to another, counted from 1; the answer is its length.
+fn with_cells(base: &[u8], first: usize, last: usize, cells: &[u8], out: &mut [u8; MOST]) -> usize {
+    if first < 1 {
         return 0;
     }
-    let start = behind(base, b'|', f - 1);
-    let end = place_of(base, b'|', start);
+    if last < 1 {
+        return 0;
+    }
+    let start = behind(base, b'|', first - 1);
+    let end = place_of(base, b'|', behind(base, b'|', last - 1));
     let n = copied(out, 0, text::head(base, start));
-    let n = copied(out, n, cell);
+    let n = copied(out, n, cells);
     copied(out, n, text::rest(base, end))
 }
 
@@ -86,31 +89,42 @@ fn found_in_first(space: &[u8; MOST], n: usize) -> u64 {
     found_in(text::head(all, n))
 }
 
-fn found_with(base: &[u8], f: usize, cell: &[u8]) -> u64 {
+// The last of the cells that a call names: the only one, where it names one.
+fn last_named(call: &[u8]) -> usize {
+    let last = word(call, 2);
+    if last.len() == 0 {
+        return number(word(call, 1)) as usize;
+    }
+    number(last) as usize
+}
+
+// The form findings of a base with other bytes as the cells that a call names.
+fn found_with(base: &[u8], call: &[u8], cells: &[u8]) -> u64 {
     let mut space = [0u8; MOST];
-    let n = with_cell(base, f, cell, &mut space);
+    let first = number(word(call, 1)) as usize;
+    let n = with_cells(base, first, last_named(call), cells, &mut space);
     found_in_first(&space, n)
 }
 
-// line on a line; new.F and cxl.F on a cell, newx.F and cxlx.F on a cell in hexadecimal.
+// line on a line; new.F and cxl.F on a cell, newx.F and cxlx.F on a cell in hexadecimal; with .F.L for .F on the cells F to L,
+// a bar between each two.
 pub fn of_forms(call: &[u8], input: &[u8]) -> u64 {
     if text::same(call, b"line") {
         return found_in(input);
     }
-    let f = number(word(call, 1)) as usize;
     if text::starts_with(call, b"new.") {
-        return found_with(&NEW, f, input);
+        return found_with(&NEW, call, input);
     }
     if text::starts_with(call, b"cxl.") {
-        return found_with(&CXL, f, input);
+        return found_with(&CXL, call, input);
     }
     let mut space = [0u8; SPACE];
     let n = unhex(input, &mut space);
     if text::starts_with(call, b"newx.") {
-        return found_with(&NEW, f, first_of(&space, n));
+        return found_with(&NEW, call, first_of(&space, n));
     }
     if text::starts_with(call, b"cxlx.") {
-        return found_with(&CXL, f, first_of(&space, n));
+        return found_with(&CXL, call, first_of(&space, n));
     }
     UNKNOWN
 }
