@@ -10,6 +10,7 @@ use crate::lines::of_cells;
 use crate::lines::of_forms;
 use crate::lines::of_reader;
 use crate::reading::UNKNOWN;
+use crate::underlying::of_baskets;
 use crate::values::of_amount;
 use crate::values::of_ident;
 
@@ -27,6 +28,10 @@ fn of_leaves(call: &[u8], input: &[u8]) -> u64 {
         return a;
     }
     let a = of_ident(call, input);
+    if a != UNKNOWN {
+        return a;
+    }
+    let a = of_baskets(call, input);
     if a != UNKNOWN {
         return a;
     }

@@ -6,6 +6,7 @@ mod leaves;
 mod lent;
 mod lines;
 mod reading;
+mod underlying;
 mod values;
 
 use answers::answer;
