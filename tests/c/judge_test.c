@@ -297,6 +297,17 @@ static void findings_are_listed(void) {
     }
     line_of(&c, cells);
     must_find(&c, most, count, group);
+    /* a basket that is well formed, but for the check digit of its ISIN */
+    struct finding isin[65] = {{470, 52}};
+    count = 1;
+    for (uint16_t i = 0; i < 64; i++) {
+        if (most[i].code != 1047) {
+            isin[count++] = most[i];
+        }
+    }
+    cells[47] = "OTHR:{0:DE0005557507}";
+    line_of(&c, cells);
+    must_find(&c, isin, count, group);
     printf("%s\n", group);
 }
 
