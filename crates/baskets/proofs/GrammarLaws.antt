@@ -16,8 +16,8 @@ use Rattle.baskets.specs.declared.legs.Kind.{Kind}
 use Rattle.baskets.specs.declared.legs.Kind.the-variants.{Swap, Other, Malformed}
 use Rattle.baskets.specs.Items.{inFront, spacesIn}
 use Rattle.baskets.specs.Legs.{legsIn}
-use Rattle.baskets.specs.Underlying.{kindNamed, behindWord, legsFrom, isinsIn, underlyingOf, isUnderlying, termsFit}
-use Rattle.baskets.specs.Grammar.{spaces, wordOf, BehindWord, bare, legs, UnderlyingWritten, TermsWritten}
+use Rattle.baskets.specs.Underlying.{kindWord, kindNamed, behindWord, legsFrom, isinsIn, underlyingOf, isUnderlying, termsFit}
+use Rattle.baskets.specs.Grammar.{spaces, BehindWord, bare, legs, UnderlyingWritten, TermsWritten}
 use Rattle.baskets.proofs.FrontLaws.{clash, spaces-count, spaces-passed, spaces-first, word-first}
 use Rattle.baskets.proofs.GrammarLegs.{legs-begin, legs-some, legs-accepted, legs-only}
 
@@ -60,7 +60,7 @@ behind-accepted (legs {text = text} gap w) =
     (rw (there, legs-some w, legs-accepted w), rw (there, legs-some w, legs-accepted w), rw (there, legs-some w))
 
 -- the word is known by its bytes
-word-accepted : (kind : Kind) (text : List ℕ) → isUnderlying kind ≡ true → (kindNamed (wordOf kind ++ text) ≡ kind) × (drop 5 (wordOf kind ++ text) ≡ text)
+word-accepted : (kind : Kind) (text : List ℕ) → isUnderlying kind ≡ true → (kindNamed (kindWord kind ++ text) ≡ kind) × (drop 5 (kindWord kind ++ text) ≡ text)
 unfolding kindNamed startsWith
 word-accepted Swap text e = (refl, refl)
 word-accepted Other text e = (refl, refl)
@@ -77,12 +77,12 @@ underlying-accepted {kind} {s} u e =
     let w = behind-accepted (u .written) in
     (rw (behind-is s, text, named, w .0, le-leb (length (u .text)) 400 (u .short)), isins-are s ∙ rw (text, named) (w .1), rw (behind-is s, text) (w .2))
 
-word-only : (s : List ℕ) → isUnderlying (kindNamed s) ≡ true → s ≡ wordOf (kindNamed s) ++ drop 5 s
+word-only : (s : List ℕ) → isUnderlying (kindNamed s) ≡ true → s ≡ kindWord (kindNamed s) ++ drop 5 s
 unfolding kindNamed
 word-only s e = go (startsWith (ascii "SWAP:") s) (startsWith (ascii "OTHR:") s) refl refl e
   where
     go : (swap other : Bool) → startsWith (ascii "SWAP:") s ≡ swap → startsWith (ascii "OTHR:") s ≡ other → isUnderlying (cond swap Swap (cond other Other Malformed)) ≡ true
-        → s ≡ wordOf (cond swap Swap (cond other Other Malformed)) ++ drop 5 s
+        → s ≡ kindWord (cond swap Swap (cond other Other Malformed)) ++ drop 5 s
     go true other f g h = word-first (ascii "SWAP:") s f
     go false true f g h = word-first (ascii "OTHR:") s g
     go false false f g h = clash h refl

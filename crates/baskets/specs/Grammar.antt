@@ -13,8 +13,9 @@ use Rattle.ident.specs.Codes.{isinShaped}
 use Rattle.baskets.specs.declared.items.Holds.{Holds}
 use Rattle.baskets.specs.declared.items.Holds.the-variants.{Isin, Term}
 use Rattle.baskets.specs.declared.legs.Kind.{Kind}
-use Rattle.baskets.specs.declared.legs.Kind.the-variants.{Swap, Other, Malformed}
+use Rattle.baskets.specs.declared.legs.Kind.the-variants.{Swap, Other}
 use Rattle.baskets.specs.Items.{units}
+use Rattle.baskets.specs.Underlying.{kindWord}
 
 -- any number of spaces
 abbrev pub spaces : ℕ → List ℕ
@@ -67,17 +68,12 @@ pub record TermsWritten (kind : Kind) (s : List ℕ) : Type 0 where
   pub short : length s ≤ 400
 
 -- cell 47: the word, and at most 400 bytes behind it: spaces, then nothing or legs
-abbrev pub wordOf : Kind → List ℕ
-wordOf Swap = ascii "SWAP:"
-wordOf Other = ascii "OTHR:"
-wordOf Malformed = []
-
 pub data BehindWord (kind : Kind) : List ℕ → List (List ℕ) → Type 0 where
   bare : (gap : ℕ) → BehindWord kind (spaces gap) []
   legs : {text : List ℕ} {values : List (List ℕ)} (gap : ℕ) → LegsWritten Isin kind text values → BehindWord kind (spaces gap ++ text) values
 
 pub record UnderlyingWritten (kind : Kind) (s : List ℕ) (values : List (List ℕ)) : Type 0 where
   pub text : List ℕ
-  pub worded : s ≡ wordOf kind ++ text
+  pub worded : s ≡ kindWord kind ++ text
   pub written : BehindWord kind text values
   pub short : length text ≤ 400

@@ -13,9 +13,14 @@ use Rattle.baskets.specs.declared.underlying.Underlying.{Underlying}
 use Rattle.baskets.specs.Items.{Part, allRight}
 use Rattle.baskets.specs.Legs.{pastSpaces, legsIn}
 
--- SWAP: or OTHR:
+-- the paper's word for each kind; what is malformed has none
+abbrev pub kindWord : Kind → List ℕ
+kindWord Swap = ascii "SWAP:"
+kindWord Other = ascii "OTHR:"
+kindWord Malformed = []
+
 unfoldable pub kindNamed : List ℕ → Kind
-kindNamed s = cond (startsWith (ascii "SWAP:") s) Swap (cond (startsWith (ascii "OTHR:") s) Other Malformed)
+kindNamed s = cond (startsWith (kindWord Swap) s) Swap (cond (startsWith (kindWord Other) s) Other Malformed)
 
 -- what stands behind the colon and its spaces: nothing, or legs
 abbrev pub behindWord : List ℕ → List ℕ
