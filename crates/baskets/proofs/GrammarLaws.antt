@@ -8,7 +8,6 @@ use borrow.Author.Tests.{eqb-true, leb-true, le-leb}
 use lib.Dec.{leb}
 use lib.ListN.{length, drop, drop-of-length-le}
 use lib.Seq.{drop-drop}
-use Rattle.text.specs.Ascii.{ascii}
 use Rattle.text.specs.Word.{blank, startsWith}
 use Rattle.text.proofs.Bools.{and-left, and-right, by-test}
 use Rattle.baskets.specs.declared.items.Holds.the-variants.{Isin, Term}
@@ -79,12 +78,12 @@ underlying-accepted {kind} {s} u e =
 
 word-only : (s : List ℕ) → isUnderlying (kindNamed s) ≡ true → s ≡ kindWord (kindNamed s) ++ drop 5 s
 unfolding kindNamed
-word-only s e = go (startsWith (ascii "SWAP:") s) (startsWith (ascii "OTHR:") s) refl refl e
+word-only s e = go (startsWith (kindWord Swap) s) (startsWith (kindWord Other) s) refl refl e
   where
-    go : (swap other : Bool) → startsWith (ascii "SWAP:") s ≡ swap → startsWith (ascii "OTHR:") s ≡ other → isUnderlying (cond swap Swap (cond other Other Malformed)) ≡ true
+    go : (swap other : Bool) → startsWith (kindWord Swap) s ≡ swap → startsWith (kindWord Other) s ≡ other → isUnderlying (cond swap Swap (cond other Other Malformed)) ≡ true
         → s ≡ kindWord (cond swap Swap (cond other Other Malformed)) ++ drop 5 s
-    go true other f g h = word-first (ascii "SWAP:") s f
-    go false true f g h = word-first (ascii "OTHR:") s g
+    go true other f g h = word-first (kindWord Swap) s f
+    go false true f g h = word-first (kindWord Other) s g
     go false false f g h = clash h refl
 
 behind-only : (kind : Kind) (text : List ℕ) → legsFrom kind (drop (spacesIn text) text) .good ≡ true → BehindWord kind text (legsFrom kind (drop (spacesIn text) text) .values)
