@@ -1,7 +1,7 @@
 // Items, and baskets of them.
 ghost use mathlib.Core.Path.{_≡_};
 ghost use Rattle.baskets.specs.Items.{inFront, itemIn, itemsIn, basketIn};
-ghost use Rattle.baskets.specs.Told.{between, valueTold, itemTold, partTold};
+ghost use Rattle.baskets.specs.Told.{brokenOff, between, valueTold, itemTold, partTold};
 
 // What the items of a basket hold.
 pub enum Holds {
@@ -27,6 +27,17 @@ pub struct Part {
     pub good: bool,
     pub right: bool,
     pub size: usize,
+}
+
+// What is not well formed, as far as it was read.
+pub fn broken_off(right: bool, size: usize) -> Part
+    ensures { λ r. ⌜ r ≡ brokenOff right size ⌝ }
+{
+    Part {
+        good: false,
+        right,
+        size,
+    }
 }
 
 // How many bytes in front lie from `least` to `most`.
@@ -111,11 +122,7 @@ fn items_in(s: &[u8], holds: Holds) -> Part
         let text = text::rest(s, at);
         let item = item_in(text, holds);
         if !(item.good & (least <= item.index)) {
-            return Part {
-                good: false,
-                right,
-                size: at,
-            };
+            return broken_off(right, at);
         }
         right = right & item.right;
         at += item.size;
@@ -129,21 +136,13 @@ fn items_in(s: &[u8], holds: Holds) -> Part
             };
         }
         if end != b',' {
-            return Part {
-                good: false,
-                right,
-                size: at,
-            };
+            return broken_off(right, at);
         }
         at += 1 + in_front(text::rest(behind, 1), b' ', b' ');
         least = item.index + 1;
         more -= 1;
     }
-    Part {
-        good: false,
-        right,
-        size: at,
-    }
+    broken_off(right, at)
 }
 
 // Braces around items.
@@ -151,11 +150,7 @@ pub fn basket_in(s: &[u8], holds: Holds) -> Part
     ensures { λ r. ⌜ r ≡ partTold holds (basketIn holds (now (s .entry))) ⌝ }
 {
     if text::byte_at(s, 0) != b'{' {
-        return Part {
-            good: false,
-            right: true,
-            size: 0,
-        };
+        return broken_off(true, 0);
     }
     let items = items_in(text::rest(s, 1), holds);
     Part {

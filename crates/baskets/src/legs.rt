@@ -5,6 +5,7 @@ ghost use Rattle.baskets.specs.Told.{partTold};
 use crate::items::Holds;
 use crate::items::Part;
 use crate::items::basket_in;
+use crate::items::broken_off;
 use crate::items::in_front;
 
 // What the word of cell 47 says.
@@ -21,11 +22,7 @@ fn leg_in(s: &[u8], holds: Holds) -> Part
 {
     let sign = text::byte_at(s, 0);
     if !((sign == b'+') | (sign == b'-')) {
-        return Part {
-            good: false,
-            right: true,
-            size: 0,
-        };
+        return broken_off(true, 0);
     }
     let basket = basket_in(text::rest(s, 1), holds);
     Part {
@@ -74,10 +71,6 @@ pub fn legs_in(s: &[u8], kind: Kind, holds: Holds) -> Part
     match kind {
         Kind::Swap => swap_in(s, holds),
         Kind::Other => other_in(s, holds),
-        Kind::Malformed => Part {
-            good: false,
-            right: true,
-            size: 0,
-        },
+        Kind::Malformed => broken_off(true, 0),
     }
 }

@@ -10,7 +10,7 @@ use native.Mathlib.Omega.{arith}
 
 returns : tie.Need-returns
 unfolding basketIn
-returns c = not-opened ((c .before .before .before .args) .holds) (itemsIn ((c .before .before .before .args) .holds) 16 0 (drop 1 ((c .before .before .before .args) .s .now))) (stands-not ((c .before .before .before .args) .s .now) ((c .before .byte-at) .ensures) 123 ((c .if1) .taken))
+returns c = (c .broken-off) .ensures ∙ not-opened ((c .before .before .before .before .args) .holds) (itemsIn ((c .before .before .before .before .args) .holds) 16 0 (drop 1 ((c .before .before .before .before .args) .s .now))) (stands-not ((c .before .before .before .before .args) .s .now) ((c .before .before .byte-at) .ensures) 123 ((c .before .if1) .taken))
 
 add-t7 : tie.Need-add-t7
 add-t7 c = omega (arith, items-room ((c .before .before .before .before .before .before .args) .holds) ((c .before .before .before .before .before .before .args) .s .now) ((c .before .before .rest) .ensures) ((c .before .items-in) .ensures))
@@ -23,6 +23,7 @@ pub basket-in-spec : {M : Type 1} → statement M
 basket-in-spec =
     tie.close
     (tie.spec
+    (λ c κs. search needs)
     (λ c κs. search needs)
     returns
     (λ c κs. search needs)

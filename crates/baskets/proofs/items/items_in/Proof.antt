@@ -1,5 +1,6 @@
 use Rattle.baskets.proofs.items.items_in.Statement.{statement}
 use Rattle.baskets.proofs.items.items_in.Tie as tie
+use mathlib.Core.Path.{_∙_}
 use Rattle.baskets.proofs.BasketLaws.{ItemsSoFar, items-start, items-out, items-unfit, item-ends, item-small, brace-room, items-end, items-stop, comma-room, items-on}
 use borrow.Author.Needs.{needs}
 use borrow.Author.Tests.{not-true, not-false}
@@ -15,7 +16,7 @@ loop-holds : tie.Need-loop-holds Inv-loop μ-loop
 loop-holds c = items-start
 
 returns : tie.Need-returns Inv-loop μ-loop
-returns c = items-unfit ((c .before .before .before .before .before .before .loop) .inv) (omega arith) ((c .before .before .before .before .rest) .ensures) ((c .before .before .before .item-in) .ensures) (not-true _ ((c .if1) .taken))
+returns c = (c .broken-off) .ensures ∙ items-unfit ((c .before .before .before .before .before .before .before .loop) .inv) (omega arith) ((c .before .before .before .before .before .rest) .ensures) ((c .before .before .before .before .item-in) .ensures) (not-true _ ((c .before .if1) .taken))
 
 add-at : tie.Need-add-at Inv-loop μ-loop
 add-at c = omega (arith, item-ends ((c .before .before .before .before .before .before .before .before .loop) .inv) (omega arith) ((c .before .before .before .before .before .before .rest) .ensures) ((c .before .before .before .before .before .item-in) .ensures) (not-false _ ((c .before .before .if1) .left)))
@@ -27,7 +28,7 @@ returns-2 : tie.Need-returns-2 Inv-loop μ-loop
 returns-2 c = items-end ((c .before .before .before .before .before .before .before .before .before .before .before .loop) .inv) (omega arith) ((c .before .before .before .before .before .before .before .before .before .rest) .ensures) ((c .before .before .before .before .before .before .before .before .item-in) .ensures) (not-false _ ((c .before .before .before .before .before .if1) .left)) ((c .before .before .rest2) .ensures) ((c .before .byte-at) .ensures) ((c .if2) .taken)
 
 returns-3 : tie.Need-returns-3 Inv-loop μ-loop
-returns-3 c = items-stop ((c .before .before .before .before .before .before .before .before .before .before .before .before .loop) .inv) (omega arith) ((c .before .before .before .before .before .before .before .before .before .before .rest) .ensures) ((c .before .before .before .before .before .before .before .before .before .item-in) .ensures) (not-false _ ((c .before .before .before .before .before .before .if1) .left)) ((c .before .before .before .rest2) .ensures) ((c .before .before .byte-at) .ensures) ((c .before .if2) .left) ((c .if3) .taken)
+returns-3 c = (c .broken-off2) .ensures ∙ items-stop ((c .before .before .before .before .before .before .before .before .before .before .before .before .before .loop) .inv) (omega arith) ((c .before .before .before .before .before .before .before .before .before .before .before .rest) .ensures) ((c .before .before .before .before .before .before .before .before .before .before .item-in) .ensures) (not-false _ ((c .before .before .before .before .before .before .before .if1) .left)) ((c .before .before .before .before .rest2) .ensures) ((c .before .before .before .byte-at) .ensures) ((c .before .before .if2) .left) ((c .before .if3) .taken)
 
 add-at-2 : tie.Need-add-at-2 Inv-loop μ-loop
 add-at-2 c = omega (arith, comma-room ((c .before .before .before .before .before .before .before .before .before .before .before .before .before .before .loop) .inv) (omega arith) ((c .before .before .before .before .before .before .before .before .before .before .before .before .rest) .ensures) ((c .before .before .before .before .before .before .before .before .before .before .before .item-in) .ensures) (not-false _ ((c .before .before .before .before .before .before .before .before .if1) .left)) ((c .before .before .before .before .before .rest2) .ensures) ((c .before .before .before .before .byte-at) .ensures) ((c .before .rest3) .ensures) ((c .in-front) .ensures) ((c .before .before .if3) .left))
@@ -42,7 +43,7 @@ loop-again : tie.Need-loop-again Inv-loop μ-loop
 loop-again c = items-on ((c .before .before .before .before .before .before .before .before .before .before .before .before .before .before .before .loop) .inv) (omega arith) ((c .before .before .before .before .before .before .before .before .before .before .before .before .before .rest) .ensures) ((c .before .before .before .before .before .before .before .before .before .before .before .before .item-in) .ensures) (not-false _ ((c .before .before .before .before .before .before .before .before .before .if1) .left)) ((c .before .before .before .before .before .before .rest2) .ensures) ((c .before .before .before .before .before .byte-at) .ensures) ((c .before .before .rest3) .ensures) ((c .before .in-front) .ensures) ((c .before .before .before .before .if2) .left) ((c .before .before .before .if3) .left)
 
 returns-4 : tie.Need-returns-4 Inv-loop μ-loop
-returns-4 c = items-out ((c .before .loop) .inv) (omega arith)
+returns-4 c = (c .broken-off3) .ensures ∙ items-out ((c .before .before .loop) .inv) (omega arith)
 
 pub items-in-spec : {M : Type 1} → statement M
 items-in-spec =
@@ -53,12 +54,14 @@ items-in-spec =
     loop-holds
     (λ c κs. search needs)
     (λ c κs. search needs)
+    (λ c κs. search needs)
     returns
     add-at
     (λ c κs. search needs)
     (λ c κs. search needs)
     add-t14
     returns-2
+    (λ c κs. search needs)
     returns-3
     (λ c κs. search needs)
     (λ c κs. search needs)
@@ -68,4 +71,5 @@ items-in-spec =
     (λ c. omega arith)
     (λ c. omega arith)
     loop-again
+    (λ c κs. search needs)
     returns-4)

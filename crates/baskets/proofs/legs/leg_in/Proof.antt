@@ -12,7 +12,7 @@ use native.Mathlib.Omega.{arith}
 
 returns : tie.Need-returns
 unfolding legIn
-returns c = not-opened ((c .before .before .before .args) .holds) (basketIn ((c .before .before .before .args) .holds) (drop 1 ((c .before .before .before .args) .s .now))) (signs ((c .before .before .before .args) .s .now) ((c .before .byte-at) .ensures) ∙ not-true _ ((c .if1) .taken))
+returns c = (c .broken-off) .ensures ∙ not-opened ((c .before .before .before .before .args) .holds) (basketIn ((c .before .before .before .before .args) .holds) (drop 1 ((c .before .before .before .before .args) .s .now))) (signs ((c .before .before .before .before .args) .s .now) ((c .before .before .byte-at) .ensures) ∙ not-true _ ((c .before .if1) .taken))
 
 add-t10 : tie.Need-add-t10
 add-t10 c = omega (arith, basket-room ((c .before .before .before .before .before .before .args) .holds) ((c .before .before .before .before .before .before .args) .s .now) ((c .before .before .rest) .ensures) ((c .before .basket-in) .ensures))
@@ -25,6 +25,7 @@ pub leg-in-spec : {M : Type 1} → statement M
 leg-in-spec =
     tie.close
     (tie.spec
+    (λ c κs. search needs)
     (λ c κs. search needs)
     returns
     (λ c κs. search needs)
