@@ -7,7 +7,7 @@ use crate::reference::{Day, MICROS};
 use super::draft::{any_pair, days_before, Draft, Maker, Want};
 use super::kinds::Kind;
 use super::rng::{Rng, CODE};
-use super::world::{World, NOT_LAPSED};
+use super::world::{oldest, World, NOT_LAPSED};
 
 /// How many rows the register has room for, beside those used before the first line.
 const ROOM: usize = 1024;
@@ -140,7 +140,7 @@ impl House {
             23 | 25 => self.repeated(code == 23),
             // For these two the recipe would choose another moment of submission.
             280 => self.trade_on(s.next().expect("a next day")),
-            281 => self.trade_on(days_before(s, 1827)),
+            281 => self.trade_on(days_before(oldest(s), 1)),
             1001.. => self.maker.form(usize::from(code) - 1000, true).0,
             _ => self.maker.rule(code, true).0,
         };

@@ -7,7 +7,7 @@ use super::classes::{any_class, needs, Need, Needs};
 use super::rng::{Rng, ALPHANUMERIC, CAPITALS, CODE};
 use super::underlying::{self, Kind, Size};
 use super::values;
-use super::world::{make_lei, Venue, World, ANY_STATUS, EARLY, LATE, NOT_LAPSED};
+use super::world::{make_lei, oldest, Venue, World, ANY_STATUS, EARLY, LATE, NOT_LAPSED};
 
 /// A call in the making: the cells of its line, its moment and how the register is to know the pair.
 #[derive(Clone)]
@@ -141,6 +141,11 @@ pub fn days_before(day: Day, count: usize) -> Day {
     (0..count).fold(day, |day, _| day.previous().unwrap_or(day))
 }
 
+/// So many days after, or the last day of all.
+pub fn days_after(day: Day, count: usize) -> Day {
+    (0..count).fold(day, |day, _| day.next().unwrap_or(day))
+}
+
 /// Cell 28 for a day and a microsecond of it. Whole seconds may go without a fraction, and zeros at its end
 /// may be left out.
 pub fn timestamp(rng: &mut Rng, day: Day, micro: u64) -> String {
@@ -241,14 +246,7 @@ impl Maker {
     fn begun(&mut self, want: &Want) -> Draft {
         let s = want.s.unwrap_or(self.world.s);
         let rng = &mut self.rng;
-        let t = want.t.unwrap_or_else(|| {
-            if rng.one_in(5) {
-                let first = Day::new(20180103).expect("a real day").max(days_before(s, 1826));
-                day_between(rng, first, s)
-            } else {
-                self.world.t
-            }
-        });
+        let t = want.t.unwrap_or_else(|| if rng.one_in(5) { day_between(rng, oldest(s), s) } else { self.world.t });
         let mut micro = want.micro.unwrap_or_else(|| {
             let any = rng.next() % MICROS;
             rng.of(&[0, 1, 43_200_000_000, MICROS - 1, any, any, any])

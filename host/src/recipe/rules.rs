@@ -4,12 +4,12 @@ use crate::reference::{Day, MICROS};
 
 use super::classes::{any_class, class_beside, class_of, needs, patterns, Need, Needs};
 use super::draft::{
-    date, day_between, days_before, earliest, latest, Draft, Instrument, Maker, Want, NO_DEAL, PARTIES,
+    date, day_between, days_after, days_before, earliest, latest, Draft, Instrument, Maker, Want, NO_DEAL, PARTIES,
 };
 use super::rng::{CAPITALS, CODE, DIGITS};
 use super::underlying::{self, Kind, Size};
 use super::values::{badly_shaped, scheme, well_shaped};
-use super::world::{Venue, ANY_STATUS, NOT_LAPSED};
+use super::world::{oldest, Venue, ANY_STATUS, ENDS_OF_FEBRUARY, FIRST, NOT_LAPSED};
 
 /// The cells that each rule reads, beside cell 1.
 const READS: &[(&[u16], &[usize])] = &[
@@ -489,28 +489,35 @@ impl Maker {
     /// 281.
     fn age_rule(&mut self, hit: bool) -> (Draft, Vec<u16>) {
         let day = |number| Day::new(number).expect("a real day");
-        let first = day(20180103);
+        let first = day(FIRST);
         let rng = &mut self.rng;
-        // Five calendar years before these are 1,825, 1,826 or 1,827 days before.
-        let leap = day(rng.of(&[20240229, 21000301, 21020101, 22020101]));
-        let (s, t) = match (hit, rng.below(4)) {
-            (true, 3) => (leap, days_before(leap, 1827)),
-            (false, 3) => (leap, days_before(leap, 1826)),
-            // Five years and a day before; the day before the first; long before.
+        let (s, t) = match (hit, rng.below(5)) {
+            // No day lies five years before these, so that the first day alone decides. A trade of that day or later
+            // is not done yet.
             (true, 0) => {
-                let s = day_between(rng, day(20230104), day(20401231));
-                (s, days_before(s, 1827))
+                let s = day_between(rng, earliest(), day(19041231));
+                (s, day_between(rng, earliest(), s))
             }
-            (true, 1) => (day_between(rng, first, day(20230102)), day(20180102)),
-            (true, _) => {
+            (false, 0) => {
+                let s = day_between(rng, earliest(), day(19041231));
+                let t = if rng.one_in(2) { first } else { day_between(rng, first, latest()) };
+                return (self.clean(Want { s: Some(s), t: Some(t), ..Want::default() }), vec![280]);
+            }
+            // The first day, while five years have not passed since.
+            (true, 1) => (day_between(rng, first, day(20230102)), days_before(first, 1)),
+            (false, 1) => (day_between(rng, day(20180104), day(20230103)), first),
+            // Long before.
+            (true, 2) => {
                 let s = day_between(rng, first, latest());
-                let last = days_before(s, 1827).max(day(20180102));
-                (s, day_between(rng, earliest(), last))
+                (s, day_between(rng, earliest(), days_before(oldest(s), 1)))
             }
-            (false, 0) => (day_between(rng, day(20180104), day(20230103)), first),
-            (false, _) => {
-                let s = day_between(rng, day(20230103), latest());
-                (s, days_before(s, 1826))
+            // A day or two from the edge.
+            _ => {
+                let any = day_between(rng, day(20230103), latest());
+                let s = if rng.one_in(2) { day(rng.of(&ENDS_OF_FEBRUARY)) } else { any };
+                let t =
+                    if hit { days_before(oldest(s), rng.between(1, 2)) } else { days_after(oldest(s), rng.below(3)) };
+                (s, t)
             }
         };
         (self.clean(Want { s: Some(s), t: Some(t), ..Want::default() }), codes(281, hit))

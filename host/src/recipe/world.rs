@@ -6,10 +6,21 @@ use crate::file::{List, LISTS, LONGEST_LIST, MARKS};
 use crate::reference::Day;
 
 use super::classes::any_class;
+use super::draft::{days_after, days_before};
 use super::rng::{Rng, CAPITALS, CODE};
 
 pub const EARLY: u32 = 19000101;
 pub const LATE: u32 = 99991231;
+
+/// The first trading day to be reported.
+pub const FIRST: u32 = 20180103;
+
+/// Submission days at which 29 February matters or might seem to: in leap years, five years after them, in other
+/// years, and round 2100, which is no leap year. The five years before one have 1,825, 1,826 or 1,827 days.
+pub const ENDS_OF_FEBRUARY: [u32; 20] = [
+    20240228, 20240229, 20240301, 20250228, 20250301, 20260228, 20260301, 20280229, 21000228, 21000301, 21010228,
+    21010301, 21040228, 21040229, 21040301, 21050228, 21050301, 24000229, 24050228, 24050301,
+];
 
 pub const ANY_STATUS: &[u8] = &[1, 2, 3, 4];
 pub const NOT_LAPSED: &[u8] = &[1, 3, 4];
@@ -553,27 +564,38 @@ impl World {
     }
 }
 
+/// The first trading day that is not too early for a submission day: the same day five years before or, where that
+/// year has none, the day before it; but none before the first of all.
+pub fn oldest(s: Day) -> Day {
+    let first = Day::new(FIRST).expect("a real day");
+    let same = s.number() - 5 * 10_000;
+    Day::new(same).or_else(|| Day::new(same - 1)).unwrap_or(first).max(first)
+}
+
 /// A submission day and a trading day for which lines can be clean.
 fn days(rng: &mut Rng) -> (Day, Day) {
-    const SPECIAL_DAYS: [u32; 16] = [
-        20180104, 20180703, 20200229, 20200301, 20230102, 20230103, 20230104, 20240229, 20240322, 20250322, 20280229,
-        20991231, 21000228, 21000301, 24000229, 99991231,
-    ];
+    const SPECIAL_DAYS: [u32; 11] =
+        [20180104, 20180703, 20200229, 20200301, 20230102, 20230103, 20230104, 20240322, 20250322, 20991231, 99991231];
     let s = if rng.one_in(3) {
         Day::new(rng.of(&SPECIAL_DAYS)).expect("real days")
+    } else if rng.one_in(4) {
+        Day::new(rng.of(&ENDS_OF_FEBRUARY)).expect("real days")
     } else {
         loop {
             let number = rng.between(2018, 2030) * 10_000 + rng.between(1, 12) * 100 + rng.between(1, 31);
             match Day::new(number as u32) {
-                Some(day) if day.number() > 20180103 => break day,
+                Some(day) if day.number() > FIRST => break day,
                 _ => {}
             }
         }
     };
-    let first = Day::new(20180103).expect("a real day");
-    let mut t = s;
-    for _ in 0..rng.of(&[0, 1, 2, 7, 30, 365, 1000, 1825, 1826]) {
-        t = t.previous().expect("after 1900");
-    }
-    (s, t.max(first))
+    let oldest = oldest(s);
+    let t = if rng.one_in(3) {
+        let later = rng.below(3);
+        days_after(oldest, later)
+    } else {
+        let earlier = rng.of(&[0, 1, 2, 7, 30, 365, 1000]);
+        days_before(s, earlier)
+    };
+    (s, t.clamp(oldest, s))
 }

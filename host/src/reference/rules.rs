@@ -19,8 +19,6 @@ const SPECIAL_CURRENCIES: [&[u8; 3]; 12] =
 
 /// The first trading day to be reported.
 const FIRST_DAY: u32 = 20180103;
-/// How many days before submission a trading day may lie.
-const OLDEST: i64 = 1826;
 
 /// The codes of the rules on one party.
 struct PartyCodes {
@@ -84,6 +82,16 @@ fn trading_day(report: &Report) -> Form<Day> {
     report.traded.map(|traded| traded.day)
 }
 
+/// The same month and day five years before, and 28 February for 29 February, since that year is no leap year. It is a
+/// number yyyymmdd and no `Day`: before 1905 it comes out below every day there is.
+fn five_years_before(s: Day) -> u32 {
+    let month_and_day = match s.number() % 10_000 {
+        229 => 228,
+        same => same,
+    };
+    (s.number() / 10_000 - 5) * 10_000 + month_and_day
+}
+
 /// LEIs that stand alone in a cell: 4, 6, 26, 27.
 fn judge_entities(report: &Report, lists: &Lists, moment: Moment, verdict: &mut Verdict) {
     let t = trading_day(report);
@@ -142,8 +150,8 @@ fn judge_time_and_capacity(report: &Report, moment: Moment, verdict: &mut Verdic
     verdict.rule(251, || Ok(report.capacity? != b"AOTC" && report.transmitted?));
     verdict.rule(280, || Ok(report.traded? >= moment));
     verdict.rule(281, || {
-        let t = report.traded?.day;
-        Ok(t.number() < FIRST_DAY || moment.day.count() - t.count() > OLDEST)
+        let t = report.traded?.day.number();
+        Ok(t < FIRST_DAY || t < five_years_before(moment.day))
     });
     verdict.rule(290, || {
         let (entity, buyer, seller) = (report.entity?, report.buyer.party?, report.seller.party?);

@@ -292,15 +292,95 @@ fn needed_cells() {
     assert_eq!(clean().with(&garbage).codes(), (1002..=1065).collect::<Vec<u16>>());
 }
 
+/// The codes of a line that is submitted at noon.
+fn on(submitted: u32, traded: &str) -> Vec<u16> {
+    let mut sample = clean();
+    sample.day = submitted;
+    sample.with(&[(28, traded)]).codes()
+}
+
 #[test]
 fn five_years_and_the_first_day() {
-    let on = |day: &str| clean().with(&[(28, &format!("{day}T09:00:00Z"))]).codes();
-    assert_eq!(on("2020-03-22"), []);
-    assert_eq!(on("2020-03-21"), [281]);
-    let mut sample = clean();
-    sample.day = 20190101;
-    assert_eq!(sample.with(&[(28, "2018-01-03T00:00:00Z")]).codes(), []);
-    assert_eq!(sample.with(&[(28, "2018-01-02T23:59:59.999999Z")]).codes(), [281]);
+    // The day of submission, the first day that is not too early, the day before it.
+    for (submitted, free, too_early) in [
+        (20240322, "2019-03-22", "2019-03-21"),
+        (20250322, "2020-03-22", "2020-03-21"),
+        (20250101, "2020-01-01", "2019-12-31"),
+        (20241231, "2019-12-31", "2019-12-30"),
+        (99991231, "9994-12-31", "9994-12-30"),
+        // In a leap year: 28 February stands for itself and for 29 February.
+        (20240228, "2019-02-28", "2019-02-27"),
+        (20240229, "2019-02-28", "2019-02-27"),
+        (20240301, "2019-03-01", "2019-02-28"),
+        // Five years after one: 29 February lies between.
+        (20250228, "2020-02-28", "2020-02-27"),
+        (20250301, "2020-03-01", "2020-02-29"),
+        (20260228, "2021-02-28", "2021-02-27"),
+        (20260301, "2021-03-01", "2021-02-28"),
+        // 2100 is no leap year.
+        (21000228, "2095-02-28", "2095-02-27"),
+        (21000301, "2095-03-01", "2095-02-28"),
+        (21010228, "2096-02-28", "2096-02-27"),
+        (21010301, "2096-03-01", "2096-02-29"),
+        (21020101, "2097-01-01", "2096-12-31"),
+        (21030630, "2098-06-30", "2098-06-29"),
+        (21040228, "2099-02-28", "2099-02-27"),
+        (21040229, "2099-02-28", "2099-02-27"),
+        (21040301, "2099-03-01", "2099-02-28"),
+        (21050228, "2100-02-28", "2100-02-27"),
+        (21050301, "2100-03-01", "2100-02-28"),
+        (24000229, "2395-02-28", "2395-02-27"),
+        (24050301, "2400-03-01", "2400-02-29"),
+        // The first day of all, until five years have passed since.
+        (20180103, "2018-01-03", "2018-01-02"),
+        (20200229, "2018-01-03", "2018-01-02"),
+        (20230102, "2018-01-03", "2018-01-02"),
+        (20230103, "2018-01-03", "2018-01-02"),
+        (20230104, "2018-01-04", "2018-01-03"),
+    ] {
+        assert_eq!(on(submitted, &format!("{free}T00:00:00Z")), [], "{submitted}");
+        assert_eq!(on(submitted, &format!("{too_early}T23:59:59.999999Z")), [281], "{submitted}");
+    }
+    assert_eq!(on(20250228, "2020-02-29T09:00:00Z"), []);
+    assert!(on(20250322, "1900-01-01T09:00:00Z").contains(&281));
+}
+
+#[test]
+fn five_years_before_every_day() {
+    let first = Day::new(20180103).unwrap();
+    let mut day = Day::new(20200101).unwrap();
+    while day.number() <= 21101231 {
+        let (year, in_year) = (day.number() / 10_000, day.number() % 10_000);
+        let mut edge = day;
+        while edge.number() / 10_000 != year - 5 || edge.number() % 10_000 > in_year {
+            edge = edge.previous().unwrap();
+        }
+        let edge = edge.max(first);
+        for (traded, codes) in [(edge.previous(), &[281][..]), (Some(edge), &[]), (edge.next(), &[])] {
+            let number = traded.unwrap().number();
+            let traded = format!("{}-{:02}-{:02}T09:00:00Z", number / 10_000, number / 100 % 100, number % 100);
+            assert_eq!(on(day.number(), &traded), codes, "{} {traded}", day.number());
+        }
+        day = day.next().unwrap();
+    }
+}
+
+#[test]
+fn submitted_when_no_day_lies_five_years_before() {
+    // The lists have no rows for those years, so other rules have something to say.
+    let on = |submitted, traded: &str| {
+        let mut codes = on(submitted, traded);
+        codes.retain(|code| [280, 281].contains(code));
+        codes
+    };
+    let mut day = Day::new(19000101).unwrap();
+    while day.number() <= 19050101 {
+        let submitted = day.number();
+        assert_eq!(on(submitted, "1900-01-01T09:00:00Z"), [281], "{submitted}");
+        assert_eq!(on(submitted, "2018-01-02T23:59:59.999999Z"), [280, 281], "{submitted}");
+        assert_eq!(on(submitted, "2018-01-03T00:00:00Z"), [280], "{submitted}");
+        day = day.next().unwrap();
+    }
 }
 
 #[test]
