@@ -61,8 +61,9 @@ pub struct Recipe {
     maker: Maker,
     /// Cases made so far.
     made: usize,
-    /// Aims, patterns, clean lines and mistakes in cells 47 and 49 take turns.
+    /// Aims, days at the edge of 281, patterns, clean lines and mistakes in cells 47 and 49 take turns.
     aims: usize,
+    ages: usize,
     patterns: usize,
     kinds: usize,
     mistakes: usize,
@@ -75,7 +76,7 @@ impl Recipe {
         let mut rng = Rng::new(seed);
         let world = World::make(&mut rng);
         let maker = Maker { rng, world };
-        Recipe { maker, made: 0, aims: 0, patterns: 0, kinds: 0, mistakes: 0, waiting: VecDeque::new() }
+        Recipe { maker, made: 0, aims: 0, ages: 0, patterns: 0, kinds: 0, mistakes: 0, waiting: VecDeque::new() }
     }
 
     /// The next case, with what it shall come to.
@@ -88,9 +89,10 @@ impl Recipe {
             return case;
         }
         match self.maker.rng.below(100) {
-            0..=59 => self.aimed(),
-            60..=68 => self.pattern(),
-            69..=77 => self.clean(),
+            0..=57 => self.aimed(),
+            58..=60 => self.age(),
+            61..=69 => self.pattern(),
+            70..=77 => self.clean(),
             78..=81 => self.underlying(),
             82..=88 => self.maker.mixture(),
             89..=93 => self.maker.nudges(),
@@ -134,6 +136,13 @@ impl Recipe {
             _ => {}
         }
         within_length(maker.case(&draft), intent)
+    }
+
+    /// The next days at the edge of 281 in turn.
+    fn age(&mut self) -> (Case, Intent) {
+        let (draft, codes) = self.maker.edge_of_age(self.ages);
+        self.ages += 1;
+        within_length(self.maker.case(&draft), Intent::Exactly(codes))
     }
 
     /// The next pattern of a rule by classification in turn, met and missed by turns.
@@ -248,6 +257,21 @@ mod tests {
                 );
             }
         }
+    }
+
+    /// The days and whether there is another mistake: each in every way, and only once.
+    #[test]
+    fn the_edge_of_age_from_both_sides() {
+        let mut recipe = Recipe::new(1);
+        let mut seen = std::collections::BTreeSet::new();
+        for turn in 0..31 * 5 * 3 {
+            let (case, intent) = recipe.age();
+            let answered = case.judge();
+            assert!(intent.is_met_by(&answered), "{}", disagreement(turn, &case, &intent, &answered));
+            let traded = case.line.split(|byte| *byte == b'|').nth(27).unwrap()[..10].to_vec();
+            seen.insert((case.day, traded, turn % 3));
+        }
+        assert_eq!(seen.len(), 31 * 5 * 3);
     }
 
     #[test]

@@ -7,7 +7,7 @@ use super::draft::{timestamp, Draft, Maker, Want};
 use super::rng::{Rng, CODE};
 use super::underlying::{self, Kind, Size};
 use super::values::{nudged, scheme, well_formed, well_shaped, NEEDED};
-use super::world::ANY_STATUS;
+use super::world::{oldest, ANY_STATUS};
 use super::Intent;
 
 /// Cells whose contents no rule reads: well formed, they leave a clean line clean.
@@ -535,7 +535,7 @@ impl Maker {
                     41 => rng.of(&world.isins).to_vec(),
                     43 => super::classes::any_class(rng).to_vec(),
                     28 => {
-                        let day = rng.of(&[t, world.t, world.s]);
+                        let day = rng.of(&[t, world.t, world.s, oldest(world.s)]);
                         let near = rng.of(&[day.previous(), Some(day), day.next()]).unwrap_or(day);
                         timestamp(rng, near, 43_200_000_000).into_bytes()
                     }

@@ -75,6 +75,13 @@ pub fn reads(code: u16) -> &'static [usize] {
     READS.iter().find(|(codes, _)| codes.contains(&code)).expect("a rule").1
 }
 
+/// Submission days beside those round the end of February: while no day lies five years before; where that day is the
+/// first trading day of all, or beside it; any day; the last day.
+const OTHER_SUBMISSIONS: [u32; 8] = [19000301, 19040229, 20230102, 20230103, 20230104, 20240322, 20250322, 99991231];
+
+/// While no day lies five years before, a trade of the same week is too early too: the first day of all is to come.
+const EARLY_SUBMISSIONS: [u32; 3] = [19000301, 19020703, 19041231];
+
 /// The codes of the rules on the party in a cell: LEI, country, MIC, birth in CONCAT, shape, birth after T.
 fn party_codes(cell: usize) -> [u16; 6] {
     match cell {
@@ -511,16 +518,61 @@ impl Maker {
                 let s = day_between(rng, first, latest());
                 (s, day_between(rng, earliest(), days_before(oldest(s), 1)))
             }
-            // A day or two from the edge.
+            // At the edge of five years, or up to two days from it.
             _ => {
                 let any = day_between(rng, day(20230103), latest());
-                let s = if rng.one_in(2) { day(rng.of(&ENDS_OF_FEBRUARY)) } else { any };
+                let s = if rng.one_in(3) { day(rng.of(&ENDS_OF_FEBRUARY)) } else { any };
                 let t =
                     if hit { days_before(oldest(s), rng.between(1, 2)) } else { days_after(oldest(s), rng.below(3)) };
                 (s, t)
             }
         };
         (self.clean(Want { s: Some(s), t: Some(t), ..Want::default() }), codes(281, hit))
+    }
+
+    /// Trading days up to two days from the edge of 281 by turns, on both sides of it, every third time with another
+    /// mistake, and the codes that come of it. The 31 submission days, the 5 trading days of each and every third turn
+    /// meet in all ways, as these numbers have no divisor in common.
+    pub fn edge_of_age(&mut self, turn: usize) -> (Draft, Vec<u16>) {
+        let day = |number: &u32| Day::new(*number).expect("a real day");
+        let at_edge = ENDS_OF_FEBRUARY.iter().chain(&OTHER_SUBMISSIONS).map(day).map(|s| (s, oldest(s)));
+        let far_from_it = EARLY_SUBMISSIONS.iter().map(day).map(|s| (s, days_before(s, 2)));
+        let days: Vec<(Day, Day)> = at_edge.chain(far_from_it).collect();
+        let (s, middle) = days[turn % days.len()];
+        let t = days_before(days_after(middle, 2), turn % 5);
+        let mut draft = self.clean(Want { s: Some(s), t: Some(t), ..Want::default() });
+        let mut found = [codes(280, t > s), codes(281, t < oldest(s))].concat();
+        if turn % 3 == 2 {
+            found.push(self.add_mistake(&mut draft));
+            found.sort_unstable();
+        }
+        (draft, found)
+    }
+
+    /// Adds a mistake that has nothing to do with the days, and tells its code.
+    fn add_mistake(&mut self, draft: &mut Draft) -> u16 {
+        match self.rng.below(4) {
+            0 => {
+                let submitter = self.bad_lei(draft.s, ANY_STATUS);
+                draft.set(6, submitter);
+                60
+            }
+            1 => {
+                let country = self.country(draft.t, false);
+                draft.set(8, country);
+                80
+            }
+            2 => {
+                let currency = self.currency(draft.t, false, false);
+                draft.set(34, currency);
+                340
+            }
+            _ => {
+                let cell = self.rng.between(29, 65);
+                self.malform(draft, cell);
+                1000 + cell as u16
+            }
+        }
     }
 
     /// 331 and 351: by the list, cell 43 aside.
