@@ -5,8 +5,9 @@ use mathlib.Core.Bool.{true, cond}
 use native.Mathlib.Omega.{arith}
 use lib.Dec.{ltb}
 use borrow.Author.Tests.{ltb-true, ltb-false}
-use Rattle.calendar.specs.Day.{yearOf, monthOf, dayOf, dayAt, monthLength, isDay, dayNumber, sum}
+use Rattle.calendar.specs.Day.{yearOf, monthOf, dayOf, dayAt, monthLength, isDay}
 use Rattle.text.proofs.Bools.{by-test}
+use Rattle.calendar.proofs.DayNumber.{sum, dayNumber}
 use Rattle.calendar.proofs.Real.{real, whole, follows, rises, falls, next-in-month, next-month, next-year}
 
 -- the next day of the month, or else the first of the next month, or else 1 January of the next year

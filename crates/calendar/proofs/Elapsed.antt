@@ -12,7 +12,7 @@ use Rattle.text.specs.Shape.{shape}
 use Rattle.text.specs.Number.{twoDigits, fourDigits}
 use Rattle.text.proofs.Bools.{and-left, and-right, by-test}
 use Rattle.text.proofs.NumberLaws.{two-small, four-small}
-use Rattle.calendar.specs.Day.{yearOf, monthOf, dayOf, isDay, dayNumber}
+use Rattle.calendar.specs.Day.{yearOf, monthOf, dayOf, isDay}
 use Rattle.calendar.specs.Dates.{dayWritten, dateOf}
 use Rattle.calendar.specs.Moments.{hourOf, minuteOf, secondOf, isTime, isEnding, microWritten, isMomentCell, whenOf, isMoment, isBefore}
 use Rattle.calendar.specs.declared.dates.Date.{Date}
@@ -20,6 +20,7 @@ use Rattle.calendar.specs.declared.dates.Date.the-variants.{On}
 use Rattle.calendar.specs.declared.moments.Moment.{Moment}
 use Rattle.calendar.specs.declared.moments.When.{When}
 use Rattle.calendar.specs.declared.moments.When.the-variants.{At}
+use Rattle.calendar.proofs.DayNumber.{dayNumber}
 use Rattle.calendar.proofs.Calendar.{day-order}
 
 -- the year, the month and the day of a date are the digits of the cell

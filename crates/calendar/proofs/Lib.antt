@@ -2,7 +2,10 @@
 pub mod Calendar
 pub mod Elapsed
 pub mod Real
+pub mod DayNumber
 pub mod Sums
+pub mod FiveYears
+pub mod FiveYearsDays
 pub mod Digits
 pub mod PlaceLaws
 pub mod CellRuns

@@ -5,8 +5,9 @@ use mathlib.Core.Bool.{Bool, true, _&&_}
 use native.Mathlib.Omega.{arith}
 use lib.Dec.{leb, ltb}
 use borrow.Author.Tests.{leb-true, ltb-true, ltb-false, le-leb}
-use Rattle.calendar.specs.Day.{yearOf, monthOf, dayOf, dayAt, monthLength, yearLength, isDay, total, daysTo, dayNumber}
+use Rattle.calendar.specs.Day.{yearOf, monthOf, dayOf, dayAt, monthLength, isDay}
 use Rattle.text.proofs.Bools.{and-left, and-right, by-test}
+use Rattle.calendar.proofs.DayNumber.{yearLength, total, daysTo, dayNumber}
 use Rattle.calendar.proofs.Sums.{total-none, total-on, total-le, months-of-year, month-small}
 
 pub record Real (y m d : ℕ) : Type 0 where

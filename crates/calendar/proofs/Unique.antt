@@ -6,8 +6,8 @@ use Rattle.calendar.proofs.dates.is_date.Kinds as is-date-kinds
 use Rattle.calendar.proofs.dates.is_date.Reads as is-date-reads
 use Rattle.calendar.proofs.days.is_day.Kinds as is-day-kinds
 use Rattle.calendar.proofs.days.is_day.Reads as is-day-reads
-use Rattle.calendar.proofs.days.day_number.Kinds as day-number-kinds
-use Rattle.calendar.proofs.days.day_number.Reads as day-number-reads
+use Rattle.calendar.proofs.days.five_years_before.Kinds as five-years-before-kinds
+use Rattle.calendar.proofs.days.five_years_before.Reads as five-years-before-reads
 use Rattle.calendar.proofs.moments.parse_moment.Kinds as parse-moment-kinds
 use Rattle.calendar.proofs.moments.parse_moment.Reads as parse-moment-reads
 use Rattle.calendar.proofs.moments.is_when.Kinds as is-when-kinds
@@ -26,8 +26,8 @@ is-date-determined κs a x y s t = same-both
 pub is-day-determined : Determined is-day-kinds.ps is-day-kinds.r is-day-reads.Post
 is-day-determined κs a x y s t = same-both
 
-pub day-number-determined : Determined day-number-kinds.ps day-number-kinds.r day-number-reads.Post
-day-number-determined κs a x y s t = same-both
+pub five-years-before-determined : Determined five-years-before-kinds.ps five-years-before-kinds.r five-years-before-reads.Post
+five-years-before-determined κs a x y s t = same-both
 
 pub parse-moment-determined : Determined parse-moment-kinds.ps parse-moment-kinds.r parse-moment-reads.Post
 parse-moment-determined κs a x y s t = same-both

@@ -1,5 +1,5 @@
 -- The Gregorian calendar. A day is the number yyyymmdd.
-use Prim.Native.Nat.{ℕ, zero, suc, _+_, _-_, _*_, _/_, _%_}
+use Prim.Native.Nat.{ℕ, _+_, _-_, _*_, _/_, _%_}
 use mathlib.Core.Bool.{Bool, cond, not, _&&_, _||_}
 use lib.Dec.{eqb, leb}
 
@@ -25,9 +25,6 @@ monthLength y m =
     cond (eqb m 2) (cond (leap y) 29 28)
     (cond (eqb m 4 || eqb m 6 || eqb m 9 || eqb m 11) 30 31)
 
-unfoldable pub yearLength : ℕ → ℕ
-yearLength y = cond (leap y) 366 365
-
 -- a real day of the years 1900 to 9999
 unfoldable pub isDay : ℕ → Bool
 isDay ymd =
@@ -38,19 +35,10 @@ isDay ymd =
     && leb 1 (dayOf ymd)
     && leb (dayOf ymd) (monthLength (yearOf ymd) (monthOf ymd))
 
--- f 0 + f 1 + .., n of them
-unfoldable pub sum : (ℕ → ℕ) → ℕ → ℕ
-sum f zero = 0
-sum f (suc n) = sum f n + f n
+-- 29 February
+abbrev pub leapDay : ℕ → Bool
+leapDay ymd = eqb (monthOf ymd) 2 && eqb (dayOf ymd) 29
 
--- the sum of f over the numbers from `first` on that are before `end`
-abbrev pub total : (ℕ → ℕ) → ℕ → ℕ → ℕ
-total f first end = sum (λ k. f (first + k)) (end - first)
-
--- the days of the years from 1900 on that are before y, those of the months of y before m, and d
-abbrev pub daysTo : ℕ → ℕ → ℕ → ℕ
-daysTo y m d = total yearLength 1900 y + total (monthLength y) 1 m + d
-
--- days are counted from 1 January 1900, which is 1; what is no real day is 0
-unfoldable pub dayNumber : ℕ → ℕ
-dayNumber ymd = cond (isDay ymd) (daysTo (yearOf ymd) (monthOf ymd) (dayOf ymd)) 0
+-- five years before a day: the same month and day of that year, for 29 February its 28 February
+unfoldable pub fiveYearsBefore : ℕ → ℕ
+fiveYearsBefore ymd = dayAt (yearOf ymd - 5) (monthOf ymd) (cond (leapDay ymd) 28 (dayOf ymd))

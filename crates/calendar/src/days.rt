@@ -1,7 +1,6 @@
 // Days, as the numbers yyyymmdd.
 ghost use mathlib.Core.Path.{_≡_};
-ghost use Prim.Native.Nat.{_≤_};
-ghost use Rattle.calendar.specs.Day.{leap, monthLength, isDay, yearLength, total, dayNumber};
+ghost use Rattle.calendar.specs.Day.{leap, monthLength, isDay, fiveYearsBefore};
 
 fn is_leap(year: u32) -> bool
     ensures { λ r. ⌜ r ≡ leap year ⌝ }
@@ -39,37 +38,15 @@ pub fn is_day(ymd: u32) -> bool
         & (day <= month_length(year, month))
 }
 
-// 365 days for each year from 1900 on, and one for each leap year: of all years before, every fourth, but of the
-// century years only every fourth, less the 460 before 1900.
-fn days_before_year(year: u32) -> u32
-    requires { ⌜ (1900 ≤ year) × (year ≤ 9999) ⌝ }
-    ensures { λ r. ⌜ r ≡ total yearLength 1900 year ⌝ }
+// The same month and day five years before, and 28 February for 29 February. Years are counted down to 0, so that every number has an answer.
+pub fn five_years_before(ymd: u32) -> u32
+    ensures { λ r. ⌜ r ≡ fiveYearsBefore ymd ⌝ }
 {
-    let last = year - 1;
-    365 * (year - 1900) + last / 4 - last / 100 + last / 400 - 460
-}
-
-fn days_before_month(year: u32, month: u32) -> u32
-    requires { ⌜ (1 ≤ month) × (month ≤ 12) ⌝ }
-    ensures { λ r. ⌜ r ≡ total (monthLength year) 1 month ⌝ }
-{
-    let mut days = 0;
-    let mut m = 1;
-    while m < month {
-        days += month_length(year, m);
-        m += 1;
-    }
-    days
-}
-
-// Days are counted from 1 January 1900, which is 1; what is no real day is 0.
-pub fn day_number(ymd: u32) -> u32
-    ensures { λ r. ⌜ r ≡ dayNumber ymd ⌝ }
-{
-    if !is_day(ymd) {
-        return 0;
-    }
     let year = ymd / 10000;
-    let month = ymd / 100 % 100;
-    days_before_year(year) + days_before_month(year, month) + ymd % 100
+    let earlier = if year < 5 { 0 } else { year - 5 };
+    let month_and_day = ymd % 10000;
+    if month_and_day == 229 {
+        return earlier * 10000 + 228;
+    }
+    earlier * 10000 + month_and_day
 }

@@ -1,4 +1,4 @@
-// Real days of the years 1900 to 9999, the day number by which days are counted, the dates and moments of cells.
+// Real days of the years 1900 to 9999, the day five years before one, the dates and moments of cells.
 //
 // Every function answers for every input. What each answers is a definition of specs/, which the crates above cite.
 mod dates;
@@ -8,7 +8,7 @@ mod moments;
 pub use dates::Date;
 pub use dates::is_date;
 pub use dates::parse_date;
-pub use days::day_number;
+pub use days::five_years_before;
 pub use days::is_day;
 pub use moments::Moment;
 pub use moments::When;

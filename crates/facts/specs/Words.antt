@@ -1,5 +1,5 @@
 -- The words in which the rules are said: of cells, lists and days.
-use Prim.Native.Nat.{ℕ, _+_}
+use Prim.Native.Nat.{ℕ}
 use Prim.Native.String.{String}
 use mathlib.Core.Bool.{Bool, true, false, cond, not, _&&_, _||_}
 use mathlib.Core.List.{List, []}
@@ -7,7 +7,7 @@ use lib.Dec.{eqb, ltb}
 use lib.ListN.{drop}
 use Rattle.text.specs.Ascii.{ascii}
 use Rattle.text.specs.Word.{blank, same, startsWith, oneOf}
-use Rattle.calendar.specs.Day.{dayNumber}
+use Rattle.calendar.specs.Day.{fiveYearsBefore}
 use Rattle.calendar.specs.Dates.{dateOf}
 use Rattle.calendar.specs.Moments.{whenOf, isBefore}
 use Rattle.calendar.specs.declared.dates.Date.{Date}
@@ -165,9 +165,9 @@ isinWrong s = not (allRight Isin (isinsIn s))
 unfoldable pub notBefore : Moment → ℕ → ℕ → Bool
 notBefore moment day micro = not (isBefore moment (record { day = day; micro = micro }))
 
--- 281: before 2018-01-03, or over 1,826 days before S
+-- 281: before 2018-01-03, or before the day five years before S
 unfoldable pub tooOld : ℕ → ℕ → Bool
-tooOld t s = ltb t 20180103 || ltb (dayNumber t + 1826) (dayNumber s)
+tooOld t s = ltb t 20180103 || ltb t (fiveYearsBefore s)
 
 -- What a cell holds, by number, as the CFI rules ask it: 1 blank, from 2 on the values of the cell in the paper's order
 abbrev pub heldAtAll : List ℕ → ℕ

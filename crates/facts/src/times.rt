@@ -51,11 +51,11 @@ fn not_before(moment: Moment, day: u32, micro: u64) -> bool
     !calendar::is_before(moment, Moment { day, micro })
 }
 
-// Before 2018-01-03, or over 1,826 days before s.
+// Before 2018-01-03, or before the day five years before s.
 fn too_old(t: u32, s: u32) -> bool
     ensures { λ r. ⌜ r ≡ tooOld t s ⌝ }
 {
-    (t < 20180103) | (calendar::day_number(t) as u64 + 1826 < calendar::day_number(s) as u64)
+    (t < 20180103) | (t < calendar::five_years_before(s))
 }
 
 // The moment and the days of cells 54 and 55, against the submission moment.

@@ -103,13 +103,13 @@ fn moment_of(when: When) -> Moment {
     }
 }
 
-// is_day and day_number on a number; date on a cell, 0 where it is malformed; moment_day and moment_micro on a cell.
+// is_day and five_years_before on a number; date on a cell, 0 where it is malformed; moment_day and moment_micro on a cell.
 pub fn of_calendar(call: &[u8], input: &[u8]) -> u64 {
     if text::same(call, b"is_day") {
         return yes(calendar::is_day(number(input)));
     }
-    if text::same(call, b"day_number") {
-        return calendar::day_number(number(input)) as u64;
+    if text::same(call, b"five_years_before") {
+        return calendar::five_years_before(number(input)) as u64;
     }
     if text::same(call, b"date") {
         return day_of(calendar::parse_date(input));

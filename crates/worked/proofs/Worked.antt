@@ -4,7 +4,7 @@ use Rattle.text.specs.Class.{allOf}
 use Rattle.text.specs.Word.{startsWith, same}
 use Rattle.text.specs.Shape.{suits, shape}
 use Rattle.text.specs.Number.{digitOf, numeral, numberOf, twoDigits, fourDigits}
-use Rattle.calendar.specs.Day.{leap, monthLength, yearLength, isDay, sum, dayNumber}
+use Rattle.calendar.specs.Day.{leap, monthLength, isDay, fiveYearsBefore}
 use Rattle.calendar.specs.Dates.{dayWritten, dateOf}
 use Rattle.ident.specs.Written.{valueOf as valueOf′, digitsOf as digitsOf′, writtenDigits, decimal}
 use Rattle.ident.specs.Codes.{oddly, doubleAddDouble}
@@ -15,7 +15,7 @@ use Rattle.facts.specs.Words.{tooOld}
 use Rattle.worked.specs.Examples.{Examples}
 
 pub examples : Examples
-unfolding valueOf′ digitsOf′ writtenDigits decimal allOf startsWith same suits shape digitOf numeral numberOf twoDigits fourDigits leap monthLength yearLength isDay sum dayNumber dayWritten dateOf oddly doubleAddDouble pointAt whole decimals isDecimal digitsOf valueOf tagged priceOf quantityOf tooOld
+unfolding valueOf′ digitsOf′ writtenDigits decimal allOf startsWith same suits shape digitOf numeral numberOf twoDigits fourDigits leap monthLength isDay fiveYearsBefore dayWritten dateOf oddly doubleAddDouble pointAt whole decimals isDecimal digitsOf valueOf tagged priceOf quantityOf tooOld
 examples =
     record {
       lei-98 = refl;
@@ -34,4 +34,8 @@ examples =
       no-yield = refl;
       in-time = refl;
       a-day-late = refl;
+      in-time-2024 = refl;
+      a-day-late-2024 = refl;
+      in-time-leap = refl;
+      a-day-late-leap = refl;
     }

@@ -37,3 +37,9 @@ pub record Examples : Type 0 where
   -- S 20250322: T 2020-03-22 free of 281, 2020-03-21 not
   pub in-time : tooOld 20200322 20250322 ≡ false
   pub a-day-late : tooOld 20200321 20250322 ≡ true
+  -- S 20240322: T 2019-03-22 free of 281, 2019-03-21 not, though two leap days lie between
+  pub in-time-2024 : tooOld 20190322 20240322 ≡ false
+  pub a-day-late-2024 : tooOld 20190321 20240322 ≡ true
+  -- S 20240229: T 2019-02-28 free of 281, 2019-02-27 not
+  pub in-time-leap : tooOld 20190228 20240229 ≡ false
+  pub a-day-late-leap : tooOld 20190227 20240229 ≡ true

@@ -1,22 +1,13 @@
 use Rattle.facts.proofs.times.too_old.Statement.{statement}
 use Rattle.facts.proofs.times.too_old.Tie as tie
 use mathlib.Core.Bool.{_||_}
-use Prim.Native.Nat.{_+_}
 use lib.Dec.{ltb}
 use Rattle.facts.specs.Words.{tooOld}
 use borrow.Author.Needs.{needs}
 
 returns : tie.Need-returns
 unfolding tooOld
-returns c = λ i. ltb (c .before .before .args .t) 20180103 || ltb ((c .before .day-number .ensures) i + 1826) ((c .day-number2 .ensures) i)
+returns c = λ i. ltb (c .before .args .t) 20180103 || ltb (c .before .args .t) ((c .five-years-before .ensures) i)
 
 pub too-old-spec : {M : Type 1} → statement M
-too-old-spec =
-    tie.close
-    (tie.spec
-    (λ c κs. search needs)
-    (λ c. search needs)
-    (λ c. search needs)
-    (λ c κs. search needs)
-    (λ c. search needs)
-    returns)
+too-old-spec = tie.close (tie.spec (λ c κs. search needs) returns)
