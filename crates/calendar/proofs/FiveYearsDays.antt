@@ -16,18 +16,19 @@ use Rattle.calendar.proofs.FiveYears.{leap-by-4, leap-year, in-february
 abbrev leaps : ℕ → ℕ
 leaps y = cond (leap y) 1 0
 
--- a year and the next: at most every fourth has one
+-- at most every fourth year has one
 every-fourth : (y z : ℕ) → z ≡ y + 1 → leaps z + y / 4 ≤ z / 4
 every-fourth y z e =
     by-test (leap z)
     (λ p. let f = leap-by-4 z p in rw p (omega arith))
     (λ p. rw p (omega arith))
 
+-- before the next year lie 365 days more, and the leap day
 one-more : (y z : ℕ) → z ≡ y + 1 → 1900 ≤ y → total yearLength 1900 z ≡ total yearLength 1900 y + 365 + leaps y
 unfolding yearLength
 one-more y z e h = rw e (rw (total-on yearLength 1900 y h) (by-test (leap y) (λ p. rw p (omega arith)) (λ p. rw p (omega arith))))
 
--- six years, the last of which is behind the five
+-- six years in a row: the days of the five before the last, and how many leap days all of them have
 module _ (a b c d e f : ℕ) (ab : b ≡ a + 1) (bc : c ≡ b + 1) (cd : d ≡ c + 1) (de : e ≡ d + 1) (ef : f ≡ e + 1) where
   five-more : 1900 ≤ a → total yearLength 1900 f ≡ total yearLength 1900 a + 1825 + leaps a + leaps b + leaps c + leaps d + leaps e
   five-more h =
@@ -52,7 +53,7 @@ module _ (a b c d e f : ℕ) (ab : b ≡ a + 1) (bc : c ≡ b + 1) (cd : d ≡ c
         every-fourth e f ef,
       )
 
--- before March the months of two years are alike, from March on they differ by it
+-- the days of the months before m: until February they are the same in all years, from March on a leap day may be among them
 months-early : (y z m : ℕ) → 1 ≤ m → m ≤ 2 → total (monthLength y) 1 m ≡ total (monthLength z) 1 m
 unfolding sum monthLength
 months-early y z m a b =
