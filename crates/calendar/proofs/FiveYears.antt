@@ -74,7 +74,7 @@ module _ (s : ℕ) where
       let short : monthLength (yearOf s) 2 ≡ 28 = rw p at (february (yearOf s)) in
       absurd (omega (arith, real s r .day-to, ap (monthLength (yearOf s)) m)))
 
-  -- the day fits into its month five years before
+  -- any other day fits into its month in every year
   still-fits : isDay s ≡ true → leapDay s ≡ false → (y : ℕ) → dayOf s ≤ monthLength y (monthOf s)
   still-fits r e y =
       by-test (eqb (monthOf s) 2)

@@ -1,4 +1,4 @@
--- The examples that the paper marks to be proved, in its order.
+-- The examples that the paper marks to be proved, in its order, and behind them those of five calendar years.
 use mathlib.Core.Path.{_≡_}
 use mathlib.Core.Bool.{true, false}
 use lib.IntN.{pos}
