@@ -1,4 +1,4 @@
-//! The 138 codes and the eleven refusals, and where their words stand.
+//! The 141 codes and the eleven refusals, and where their words stand.
 
 /// The rule codes (CON-...) in rising order.
 pub const RULES: [u16; 73] = [
@@ -11,21 +11,42 @@ pub const RULES: [u16; 73] = [
 /// Cell forms: code 1000 + f for cell f.
 pub const FORMS: u16 = 65;
 
-/// How many codes there are.
-pub const COUNT: usize = RULES.len() + FORMS as usize;
+/// The codes on Polish identifiers (CLT-307 to CLT-309), given only where the call asks for them.
+pub const POLISH: [u16; 3] = [3307, 3308, 3309];
 
-/// Every code in rising order: the rules, then 1001 to 1065.
+/// How many codes there are where the call does not ask for Polish identifiers.
+pub const COUNT_WITHOUT_POLISH: usize = RULES.len() + FORMS as usize;
+
+/// How many codes there are.
+pub const COUNT: usize = COUNT_WITHOUT_POLISH + POLISH.len();
+
+/// Every code in rising order: the rules, then 1001 to 1065, then those on Polish identifiers.
 pub const CODES: [u16; COUNT] = {
     let mut all = [0; COUNT];
     let mut i = 0;
     while i < COUNT {
-        all[i] = if i < RULES.len() { RULES[i] } else { 1001 + (i - RULES.len()) as u16 };
+        all[i] = if i < RULES.len() {
+            RULES[i]
+        } else if i < COUNT_WITHOUT_POLISH {
+            1001 + (i - RULES.len()) as u16
+        } else {
+            POLISH[i - COUNT_WITHOUT_POLISH]
+        };
         i += 1;
     }
     all
 };
 
-const LARGEST: usize = 1000 + FORMS as usize;
+/// How many codes a call can give, and so how many entries its findings buffer needs.
+pub const fn count(polish: bool) -> usize {
+    if polish {
+        COUNT
+    } else {
+        COUNT_WITHOUT_POLISH
+    }
+}
+
+const LARGEST: usize = CODES[COUNT - 1] as usize;
 
 /// For each code its place in `CODES`, 255 elsewhere.
 const PLACES: [u8; LARGEST + 1] = {
@@ -90,7 +111,8 @@ mod tests {
 
     #[test]
     fn the_codes_rise_and_have_places() {
-        assert_eq!(COUNT, 138);
+        assert_eq!([count(false), count(true), COUNT], [138, 141, 141]);
+        assert_eq!(POLISH.map(place), [138, 139, 140]);
         assert!(CODES.windows(2).all(|pair| pair[0] < pair[1]));
         for (i, &code) in CODES.iter().enumerate() {
             assert_eq!(place(code), i);
@@ -98,7 +120,7 @@ mod tests {
     }
 
     #[test]
-    fn all_138_codes_and_11_refusals_have_words() {
+    fn all_141_codes_and_11_refusals_have_words() {
         assert!(code_rows().map(|row| row.0).eq(CODES));
         assert!(code_rows().all(|(_, row)| row.len() == 3 && row.iter().all(|cell| !cell.is_empty())));
         assert!(refusal_rows().map(|row| row.0).eq(1..=11));

@@ -90,6 +90,7 @@ fn describe(number: usize, case: &Case, expected: &Answered, ours: Option<&Answe
 fn call(case: &Case) -> String {
     let mut text = format!("  line ({} bytes): {}\n", case.line.len(), shown(&case.line));
     let _ = write!(text, "  submitted {} at microsecond {}; ", case.day, case.micro);
+    let _ = write!(text, "Polish identifiers: {}; ", case.polish);
     let _ = write!(text, "{} findings entries; register of {} bytes", case.findings.len(), case.register.len());
     if let Some(&[_, _, _, _, _, a, b, c, d]) = case.register.first_chunk() {
         let _ = write!(text, ", {} rows used", u32::from_le_bytes([a, b, c, d]));
@@ -204,6 +205,7 @@ mod tests {
             register: vec![0; 83],
             day: 20250322,
             micro: 7,
+            polish: 256,
             findings: vec![9; 138],
         };
         let mut expected =
@@ -217,7 +219,7 @@ mod tests {
         let told = describe(5, &case, &expected, Some(&ours));
         for part in [
             "case 5\n  line (6 bytes): NEW|a\\xff\n",
-            "at microsecond 7; 138 findings entries; register of 83 bytes, 0 rows used; LEI 3 bytes; CTY 3 bytes;",
+            "at microsecond 7; Polish identifiers: 256; 138 findings entries; register of 83 bytes, 0 rows used; LEI 3 bytes; CTY 3 bytes;",
             "expected: answer 0 (judged), count 2, words 0000000000000003 0000000000000000 0000000000000000\n",
             "ours: answer 9 (The line is over 4,096 bytes), count 1, words 0000000000000001 0000000000000000 00",
             "in both: 23 A NEW line for a reference",

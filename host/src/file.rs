@@ -7,7 +7,7 @@ use crate::reference::{judge, Call, Outcome};
 
 /// How a file starts.
 pub const MAGIC: [u8; 4] = *b"CASE";
-pub const VERSION: u32 = 1;
+pub const VERSION: u32 = 2;
 
 /// The kinds of records: 1 to 5 replace a list, 6 is a case.
 pub const LISTS: usize = 5;
@@ -35,6 +35,8 @@ pub struct Case {
     pub register: Vec<u8>,
     pub day: u32,
     pub micro: u64,
+    /// 0 where Polish identifiers are not judged.
+    pub polish: u32,
     /// The findings buffer before the call.
     pub findings: Vec<u16>,
 }
@@ -63,6 +65,7 @@ impl Case {
             register: &mut register,
             day: self.day,
             micro: self.micro,
+            polish: self.polish,
             findings: &mut findings,
         });
         Answered { outcome, findings, register }
@@ -197,6 +200,7 @@ impl<W: Write> Writer<W> {
         write_bytes(&mut self.to, &case.register, LONGEST_REGISTER)?;
         self.to.write_all(&case.day.to_le_bytes())?;
         self.to.write_all(&case.micro.to_le_bytes())?;
+        self.to.write_all(&case.polish.to_le_bytes())?;
         assert!(case.findings.len() <= MOST_FINDINGS);
         write_u32(&mut self.to, case.findings.len())?;
         write_entries(&mut self.to, &case.findings)?;
@@ -253,10 +257,11 @@ impl<R: BufRead> Reader<R> {
         let register = read_bytes(from, LONGEST_REGISTER)?;
         let day = read_u32(from)?;
         let micro = read_u64(from)?;
+        let polish = read_u32(from)?;
         let entries = read_length(from, MOST_FINDINGS)?;
         let findings = read_entries(from, entries)?;
         let expected = Answered::read(from, entries, register.len())?;
-        let case = Case { line, lists: self.lists.clone(), register, day, micro, findings };
+        let case = Case { line, lists: self.lists.clone(), register, day, micro, polish, findings };
         Ok((case, expected))
     }
 }
@@ -289,10 +294,10 @@ mod tests {
     #[test]
     fn files_that_are_none() {
         let message = |bytes: &[u8]| all(bytes).unwrap_err().to_string();
-        assert_eq!(message(b"CASE\x02\0\0\0\0\0\0\0"), "not a file of cases");
-        assert_eq!(message(b"CASE\x01"), "the file of cases ends in the middle of a record");
-        assert_eq!(message(b"CASE\x01\0\0\0\0\0\0\0\x06\0\0"), "the file of cases ends in the middle of a record");
-        assert_eq!(message(b"CASE\x01\0\0\0\0\0\0\0\x07\0\0\0"), "a record of kind 7");
-        assert!(all(b"CASE\x01\0\0\0\0\0\0\0").unwrap().is_empty());
+        assert_eq!(message(b"CASE\x01\0\0\0\0\0\0\0"), "not a file of cases");
+        assert_eq!(message(b"CASE\x02"), "the file of cases ends in the middle of a record");
+        assert_eq!(message(b"CASE\x02\0\0\0\0\0\0\0\x06\0\0"), "the file of cases ends in the middle of a record");
+        assert_eq!(message(b"CASE\x02\0\0\0\0\0\0\0\x07\0\0\0"), "a record of kind 7");
+        assert!(all(b"CASE\x02\0\0\0\0\0\0\0").unwrap().is_empty());
     }
 }

@@ -1,7 +1,9 @@
-//! The paper's program: judges each line of a report with five empty lists and a small register.
+//! The paper's program: judges each line of a report with five empty lists and a small register, and does not ask for
+//! Polish identifiers.
 
 use std::io::{self, BufRead, Write};
 
+use crate::codes::COUNT_WITHOUT_POLISH;
 use crate::reference::{judge_line, Lists, Moment, Register};
 
 /// The head of a list or register without rows.
@@ -33,8 +35,8 @@ pub fn run(mut input: impl BufRead, mut output: impl Write) -> io::Result<()> {
         if number == 1 {
             continue;
         }
-        let mut findings = [0; 138];
-        let outcome = judge_line(&lists, &mut register, moment, &mut findings, &line);
+        let mut findings = [0; COUNT_WITHOUT_POLISH];
+        let outcome = judge_line(&lists, &mut register, moment, false, &mut findings, &line);
         write!(output, "{number} {} {}", outcome.answer, outcome.count)?;
         for code in &findings[..outcome.count as usize] {
             write!(output, " {code}")?;

@@ -1,6 +1,6 @@
 //! Makes calls by a fixed recipe, and writes them with the results expected of them.
 //!
-//! Most cases have an aim: one of the 138 codes or 11 refusals, to be met just so or just missed. The recipe
+//! Most cases have an aim: one of the 141 codes or 11 refusals, to be met just so or just missed. The recipe
 //! then knows what shall come out, from its own plain reading of the rules, and says so if the reference
 //! disagrees. Others are clean lines of all kinds, sequences over one register, and calls at random.
 
@@ -9,6 +9,7 @@ mod calls;
 mod classes;
 mod draft;
 mod kinds;
+mod polish;
 pub(crate) mod rng;
 mod rules;
 mod underlying;
@@ -61,12 +62,14 @@ pub struct Recipe {
     maker: Maker,
     /// Cases made so far.
     made: usize,
-    /// Aims, days at the edge of 281, patterns, clean lines and mistakes in cells 47 and 49 take turns.
+    /// Aims, days at the edge of 281, patterns, clean lines, mistakes in cells 47 and 49 and Polish identifiers take
+    /// turns.
     aims: usize,
     ages: usize,
     patterns: usize,
     kinds: usize,
     mistakes: usize,
+    numbers: usize,
     /// The rest of a sequence.
     waiting: VecDeque<(Case, Intent)>,
 }
@@ -75,8 +78,9 @@ impl Recipe {
     pub fn new(seed: u64) -> Recipe {
         let mut rng = Rng::new(seed);
         let world = World::make(&mut rng);
-        let maker = Maker { rng, world };
-        Recipe { maker, made: 0, aims: 0, ages: 0, patterns: 0, kinds: 0, mistakes: 0, waiting: VecDeque::new() }
+        let maker = Maker { rng, world, polish: true };
+        let waiting = VecDeque::new();
+        Recipe { maker, made: 0, aims: 0, ages: 0, patterns: 0, kinds: 0, mistakes: 0, numbers: 0, waiting }
     }
 
     /// The next case, with what it shall come to.
@@ -89,15 +93,16 @@ impl Recipe {
             return case;
         }
         match self.maker.rng.below(100) {
-            0..=57 => self.aimed(),
-            58..=60 => self.age(),
-            61..=69 => self.pattern(),
-            70..=77 => self.clean(),
-            78..=81 => self.underlying(),
-            82..=88 => self.maker.mixture(),
-            89..=93 => self.maker.nudges(),
-            94..=95 => self.maker.wreck(),
-            96..=98 => self.maker.refusals(),
+            0..=51 => self.aimed(),
+            52..=54 => self.age(),
+            55..=63 => self.pattern(),
+            64..=70 => self.clean(),
+            71..=74 => self.underlying(),
+            75..=84 => self.polish(),
+            85..=90 => self.maker.mixture(),
+            91..=94 => self.maker.nudges(),
+            95..=96 => self.maker.wreck(),
+            97..=98 => self.maker.refusals(),
             _ => {
                 self.waiting = self.maker.sequence().into();
                 self.waiting.pop_front().expect("a sequence is not empty")
@@ -117,16 +122,25 @@ impl Recipe {
         }
         let code = CODES[aim];
         let hit = [0, 2, 4, 5].contains(&round);
-        let (mut draft, mut intent, reads) = if code > 1000 {
-            let (draft, intent) = maker.form(usize::from(code) - 1000, hit);
-            (draft, intent, &[][..])
-        } else {
-            let (draft, codes) = maker.rule(code, hit);
-            (draft, Intent::Exactly(codes), rules::reads(code))
+        let (mut draft, mut intent, reads) = match code {
+            1001..=1065 => {
+                let (draft, intent) = maker.form(usize::from(code) - 1000, hit);
+                (draft, intent, &[][..])
+            }
+            3307.. => {
+                // Each kind of round goes through the cells.
+                let cell = polish::cell(code, rounds + rounds / 6);
+                let (draft, codes) = maker.polish_rule(code, cell, hit);
+                (draft, Intent::Exactly(codes), polish::reads(code, cell))
+            }
+            _ => {
+                let (draft, codes) = maker.rule(code, hit);
+                (draft, Intent::Exactly(codes), rules::reads(code))
+            }
         };
         match round {
             // A form finding in a cell that the rule reads, each in turn: the rule falls silent.
-            4 if code < 1000 => {
+            4 if !reads.is_empty() => {
                 let cell = reads[rounds / 6 % reads.len()];
                 maker.malform(&mut draft, cell);
                 intent = Intent::Exactly(vec![1000 + cell as u16]);
@@ -163,6 +177,13 @@ impl Recipe {
         let turn = self.mistakes;
         self.mistakes += 1;
         self.maker.underlying_form(turn)
+    }
+
+    /// The next Polish identifier in turn, right or wrong.
+    fn polish(&mut self) -> (Case, Intent) {
+        let (draft, codes) = self.maker.polish_turn(self.numbers);
+        self.numbers += 1;
+        (self.maker.case(&draft), Intent::Exactly(codes))
     }
 
     /// The next kind of clean line in turn; after all of them a cancellation.
@@ -226,12 +247,13 @@ pub fn run(seed: u64, count: usize, to: impl Write, mut output: impl Write) -> i
 
 fn disagreement(number: usize, case: &Case, intent: &Intent, answered: &Answered) -> String {
     let mut text = format!(
-        "case {number}: the recipe means {intent:?}, the reference says {:?} {:?}\n{}\n{} {}",
+        "case {number}: the recipe means {intent:?}, the reference says {:?} {:?}\n{}\n{} {} {}",
         answered.outcome.answer,
         answered.codes(),
         String::from_utf8_lossy(&case.line),
         case.day,
-        case.micro
+        case.micro,
+        case.polish
     );
     for code in answered.codes() {
         text.push_str(&format!("\n{code} {}", words(*code)));

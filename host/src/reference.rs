@@ -7,6 +7,7 @@ mod calendar;
 mod cfi;
 mod forms;
 mod lists;
+mod polish;
 mod register;
 mod report;
 mod rules;
@@ -81,6 +82,8 @@ pub struct Call<'a> {
     pub register: &'a mut [u8],
     pub day: u32,
     pub micro: u64,
+    /// Whether Polish identifiers are judged: 0 for no, any other number for yes.
+    pub polish: u32,
     pub findings: &'a mut [u16],
 }
 
@@ -93,25 +96,26 @@ fn judge_or_refuse(call: Call) -> Result<Outcome, Refusal> {
     let lists = Lists::read(call.lei, call.cty, call.ccy, call.ven, call.ins)?;
     let mut register = Register::open(call.register)?;
     let moment = Moment::new(call.day, call.micro).ok_or(Refusal::Moment)?;
-    Ok(judge_line(&lists, &mut register, moment, call.findings, call.line))
+    Ok(judge_line(&lists, &mut register, moment, call.polish != 0, call.findings, call.line))
 }
 
-/// Judges one line against lists and a register that were read before.
+/// Judges one line against lists and a register that were read before, Polish identifiers too where that is asked.
 pub fn judge_line(
     lists: &Lists,
     register: &mut Register,
     moment: Moment,
+    polish: bool,
     findings: &mut [u16],
     line: &[u8],
 ) -> Outcome {
-    if findings.len() < codes::COUNT {
+    if findings.len() < codes::count(polish) {
         return Refusal::Findings.into();
     }
     if line.len() > LONGEST_LINE {
         return Refusal::LongLine.into();
     }
     let Some(cells) = split(line) else { return Refusal::Cells.into() };
-    match judge_cells(lists, register, moment, &cells) {
+    match judge_cells(lists, register, moment, polish, &cells) {
         Ok(verdict) => {
             for (entry, code) in findings.iter_mut().zip(verdict.codes()) {
                 *entry = code;
@@ -127,6 +131,7 @@ fn judge_cells(
     lists: &Lists,
     register: &mut Register,
     moment: Moment,
+    polish: bool,
     cells: &[&[u8]; CELLS],
 ) -> Result<Verdict, Refusal> {
     let mut verdict = Verdict::default();
@@ -135,6 +140,9 @@ fn judge_cells(
             let report = Report::read(cells, &mut verdict);
             let pair = report.pair();
             rules::judge_new(&report, lists, moment, pair.map(|pair| register.standing(&pair)), &mut verdict);
+            if polish {
+                polish::judge(&report, &mut verdict);
+            }
             if let (Ok(pair), true) = (pair, verdict.is_clean()) {
                 register.set_live(&pair)?;
             }

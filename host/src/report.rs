@@ -24,7 +24,7 @@ pub fn report(seed: u64, count: usize) -> Vec<u8> {
         let left = BUFFER - report.len() % BUFFER;
         if left < NEAR {
             let buffers = report.len() / BUFFER;
-            let end: &[u8] = if buffers % 2 == 0 { b"\n" } else { b"\r\n" };
+            let end: &[u8] = if buffers.is_multiple_of(2) { b"\n" } else { b"\r\n" };
             let length = left - 1 + buffers % 3;
             report.extend(rng.text(ALPHANUMERIC, length.saturating_sub(end.len())));
             report.extend(end);
@@ -46,7 +46,7 @@ fn line(rng: &mut Rng, number: usize, trade: Vec<u8>) -> Vec<u8> {
             let length = rng.between(4_095, 4_100);
             [vec![b'|'; 64], rng.text(ALPHANUMERIC, length - 64)].concat()
         }
-        4 if number % 8 == 0 => rng.text(ALPHANUMERIC, BUFFER + NEAR),
+        4 if number.is_multiple_of(8) => rng.text(ALPHANUMERIC, BUFFER + NEAR),
         _ => trade,
     };
     line.retain(|&byte| byte != b'\n');

@@ -1,6 +1,6 @@
 //! Lines for a benchmark: a day's work of a reporting house over one set of lists and one register.
 
-use crate::codes::CODES;
+use crate::codes::{CODES, COUNT_WITHOUT_POLISH};
 use crate::file::{List, LISTS};
 use crate::reference::{Day, MICROS};
 
@@ -46,7 +46,7 @@ pub fn sized_bench_day(seed: u64, count: usize, list_rows: usize, register_rows:
     let world = World::padded(&mut rng, s, days_before(s, 1), list_rows.max(64));
     let lists = world.lists.clone();
     let register = register(Rng::new(rng.next()), register_rows);
-    let mut house = House { maker: Maker { rng, world }, pairs: Vec::new() };
+    let mut house = House { maker: Maker { rng, world, polish: false }, pairs: Vec::new() };
     let mut clean: Vec<bool> = (0..count).map(|line| line % 2 == 1).collect();
     house.maker.rng.shuffle(&mut clean);
     let lines = clean.iter().map(|&clean| if clean { house.clean_line() } else { house.faulty_line() }.line());
@@ -135,7 +135,7 @@ impl House {
     /// code, but has one of its own.
     fn faulty_line(&mut self) -> Draft {
         let s = self.maker.world.s;
-        let code = self.maker.rng.of(&CODES);
+        let code = self.maker.rng.of(&CODES[..COUNT_WITHOUT_POLISH]);
         let mut draft = match code {
             23 | 25 => self.repeated(code == 23),
             // For these two the recipe would choose another moment of submission.
@@ -188,10 +188,10 @@ mod tests {
         let mut bytes = day.register.clone();
         let mut register = Register::open(&mut bytes).unwrap();
         let moment = Moment::new(day.day, day.micro).unwrap();
-        let mut findings = [0; 138];
+        let mut findings = [0; COUNT_WITHOUT_POLISH];
         let (mut clean, mut found) = (0, 0);
         for line in &day.lines {
-            let outcome = judge_line(&lists, &mut register, moment, &mut findings, line);
+            let outcome = judge_line(&lists, &mut register, moment, false, &mut findings, line);
             assert_eq!(outcome.answer, 0, "{}", String::from_utf8_lossy(line));
             assert!(outcome.count <= 8, "{}: {findings:?}", String::from_utf8_lossy(line));
             clean += usize::from(outcome.count == 0);

@@ -1,5 +1,6 @@
 //! Whole calls: cell forms, refusals, sequences over one register, and calls at random.
 
+use crate::codes;
 use crate::file::{Case, FILLER, LONGEST_LINE, LONGEST_REGISTER};
 use crate::reference::MICROS;
 
@@ -60,6 +61,13 @@ impl Maker {
                 let time = self.rng.of(&[0, MICROS - 1, MICROS - 1_000_000, 500_000, 10_000_000]);
                 timestamp(&mut self.rng, draft.t, time).into_bytes()
             }
+            // Any country but PL, whose numbers have rules of their own.
+            59 => loop {
+                let value = well_formed(&mut self.rng, cell);
+                if !value.starts_with(b"NIDN:PL") {
+                    break value;
+                }
+            },
             _ => well_formed(&mut self.rng, cell),
         };
         draft.set(cell, value);
@@ -147,7 +155,7 @@ impl Maker {
                 (case, Intent::Judged)
             }
             8 => {
-                case.findings = vec![FILLER; 138];
+                case.findings = vec![FILLER; codes::count(case.polish != 0)];
                 (case, Intent::Exactly(Vec::new()))
             }
             _ => (case, Intent::Exactly(Vec::new())),
@@ -194,7 +202,8 @@ impl Maker {
             6 => self.damage_register(&mut case.register),
             7 => self.damage_moment(case),
             8 => {
-                let entries = self.rng.of(&[0, 1, 64, 136, 137, 137, 137]);
+                let enough = codes::count(case.polish != 0);
+                let entries = self.rng.of(&[0, 1, 64, enough - 2, enough - 1, enough - 1, 137]);
                 case.findings = vec![FILLER; entries];
             }
             9 => self.overfill(&mut case.line),
@@ -463,6 +472,8 @@ impl Maker {
                 let country = self.country(draft.t, true);
                 let scheme = scheme(&mut self.rng);
                 [scheme.as_bytes(), &well_shaped(&mut self.rng, scheme, &country)].concat()
+            } else if party && self.rng.one_in(2) {
+                self.any_polish(draft.t)
             } else {
                 well_formed(&mut self.rng, cell)
             };
@@ -525,6 +536,7 @@ impl Maker {
                 let world = &self.world;
                 match cell {
                     4 | 6 | 26 | 27 => rng.of(&world.leis).to_vec(),
+                    7 | 12 | 16 | 21 | 57 | 59 if rng.one_in(3) => self.any_polish(t),
                     7 | 12 | 16 | 21 if rng.one_in(2) => [b"LEI:", &rng.of(&world.leis)[..]].concat(),
                     7 | 16 if rng.one_in(2) => [b"MIC:", &rng.of(&world.mics)[..]].concat(),
                     7 | 12 | 16 | 21 => [b"NIDN:", &rng.of(&world.countries)[..], b"X1"].concat(),

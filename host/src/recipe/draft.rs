@@ -1,9 +1,11 @@
 //! Lines in the making, and clean ones to start from.
 
+use crate::codes;
 use crate::file::{Case, FILLER, LONGEST_REGISTER};
 use crate::reference::{Day, MICROS};
 
 use super::classes::{any_class, needs, Need, Needs};
+use super::polish;
 use super::rng::{Rng, ALPHANUMERIC, CAPITALS, CODE};
 use super::underlying::{self, Kind, Size};
 use super::values;
@@ -18,6 +20,8 @@ pub struct Draft {
     pub t: Day,
     pub s: Day,
     pub micro: u64,
+    /// 0 where the call does not ask for Polish identifiers.
+    pub polish: u32,
     /// The states of the pair's own rows, in order; none where it is not in the register.
     pub states: Vec<u8>,
     /// The register has no room for another row.
@@ -180,6 +184,8 @@ pub fn any_pair(rng: &mut Rng) -> [u8; 73] {
 pub struct Maker {
     pub rng: Rng,
     pub world: World,
+    /// Are there calls that ask for Polish identifiers, and more of these than happen to be?
+    pub polish: bool,
 }
 
 impl Maker {
@@ -260,8 +266,9 @@ impl Maker {
                 rng.next() % micro
             }
         });
+        let polish = if self.polish { polish::flag(rng) } else { 0 };
         let cells = vec![Vec::new(); 65];
-        let mut draft = Draft { cells, malformed: Vec::new(), t, s, micro, states: Vec::new(), full: false };
+        let mut draft = Draft { cells, malformed: Vec::new(), t, s, micro, polish, states: Vec::new(), full: false };
         draft.set(1, "NEW");
         let length = rng.of(&[1, 8, 8, 20, 35, 51, 52]);
         draft.set(2, rng.text(CODE, length));
@@ -327,7 +334,8 @@ impl Maker {
                 draft.set(cell, rng.of(NAMES));
             }
         }
-        identifier
+        let may_become = self.poland_listed(draft.t);
+        self.with_right_number(scheme, identifier, Some(birth), may_become)
     }
 
     fn set_parties(&mut self, draft: &mut Draft, entity: &[u8; 20]) {
@@ -380,7 +388,8 @@ impl Maker {
         }
         let scheme = values::scheme(rng);
         let country = if rng.one_in(3) { rng.of(&[*b"FI", *b"LV"]) } else { rng.array(CAPITALS) };
-        [scheme.as_bytes(), &values::well_shaped(rng, scheme, &country)].concat()
+        let identifier = values::well_shaped(rng, scheme, &country);
+        [scheme.as_bytes(), &self.with_right_number(scheme, identifier, None, true)].concat()
     }
 
     /// An ISIN that the list does not have on T.
@@ -702,13 +711,15 @@ impl Maker {
     /// The call of a draft, with a register made for it.
     pub fn case(&mut self, draft: &Draft) -> Case {
         let register = self.register(draft);
-        let entries = self.rng.of(&[138, 138, 138, 138, 138, 138, 138, 139, 150, 200]);
+        let enough = codes::count(draft.polish != 0);
+        let entries = if self.rng.below(10) < 7 { enough } else { self.rng.of(&[enough + 1, 141, 150, 200]) };
         Case {
             line: draft.line(),
             lists: self.world.lists.clone(),
             register,
             day: draft.s.number(),
             micro: draft.micro,
+            polish: draft.polish,
             findings: vec![FILLER; entries],
         }
     }

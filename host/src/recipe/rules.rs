@@ -83,7 +83,7 @@ const OTHER_SUBMISSIONS: [u32; 8] = [19000301, 19040229, 20230102, 20230103, 202
 const EARLY_SUBMISSIONS: [u32; 3] = [19000301, 19020703, 19041231];
 
 /// The codes of the rules on the party in a cell: LEI, country, MIC, birth in CONCAT, shape, birth after T.
-fn party_codes(cell: usize) -> [u16; 6] {
+pub fn party_codes(cell: usize) -> [u16; 6] {
     match cell {
         7 => [70, 71, 72, 73, 74, 110],
         12 => [120, 121, 0, 122, 123, 150],
@@ -238,6 +238,7 @@ impl Maker {
                     return (draft, vec![all[4]]);
                 }
                 let identifier = well_shaped(&mut self.rng, scheme, &country);
+                let identifier = self.with_right_number(scheme, identifier, None, false);
                 draft.set(cell, [scheme.as_bytes(), &identifier].concat());
             }
             2 => {
@@ -260,7 +261,8 @@ impl Maker {
             }
             badly_shaped(&mut self.rng, scheme, &country)
         } else {
-            well_shaped(&mut self.rng, scheme, &country)
+            let identifier = well_shaped(&mut self.rng, scheme, &country);
+            self.with_right_number(scheme, identifier, None, false)
         };
         draft.set(cell, [scheme.as_bytes(), &identifier].concat());
     }
@@ -278,6 +280,9 @@ impl Maker {
             let mut value = draft.get(cell).to_vec();
             value[9..17].copy_from_slice(birth.number().to_string().as_bytes());
             draft.set(cell, value);
+        } else if let Some(identifier) = draft.get(cell).strip_prefix(b"NIDN:") {
+            let identifier = self.with_right_number("NIDN:", identifier.to_vec(), Some(birth), false);
+            draft.set(cell, [b"NIDN:", &identifier[..]].concat());
         }
         // A decision maker's date may stand alone.
         if (cell == 12 || cell == 21) && self.rng.one_in(3) {
@@ -307,7 +312,9 @@ impl Maker {
                 }
                 1 => {
                     let other = [&country[..], &self.rng.text(DIGITS, 8), &self.rng.text(CAPITALS, 10)].concat();
-                    draft.set(cell, [self.rng.of(&["CCPT:", "NIDN:"]).as_bytes(), &other].concat());
+                    // What follows PL would be no Polish number.
+                    let schemes = if country == *b"PL" { ["CCPT:"; 2] } else { ["CCPT:", "NIDN:"] };
+                    draft.set(cell, [self.rng.of(&schemes).as_bytes(), &other].concat());
                     return (draft, found);
                 }
                 2 => {

@@ -192,6 +192,7 @@ impl World {
     pub fn make(rng: &mut Rng) -> World {
         let (s, t) = days(rng);
         let mut world = World::around(rng, s, t);
+        world.add_poland(rng);
         let filled = rng.one_in(8);
         world.lists = world.framed(rng, |rng, _, rows| {
             let width = rows[0].len();
@@ -344,6 +345,16 @@ impl World {
         add(self.countries[13], (EARLY, t));
         // The others have no row. Keys that no cell can hold do no harm.
         add(rng.array(b"0aZ "), (EARLY, LATE));
+    }
+
+    /// PL is a country on T at least, so that identifiers from there can be good.
+    fn add_poland(&mut self, rng: &mut Rng) {
+        let key = *b"PL";
+        if !self.countries.contains(&key) {
+            self.countries.push(key);
+        }
+        let (from, to) = if rng.one_in(3) { rng.of(&self.spans_with_t()) } else { (EARLY, LATE) };
+        self.cty_rows.push(Row { key, more: [], from, to });
     }
 
     fn add_currencies(&mut self, rng: &mut Rng) {

@@ -20,14 +20,16 @@ fn month_length(year: u32, month: u32) -> u32 {
     }
 }
 
+/// Is there such a day by the Gregorian calendar, in whichever year?
+pub fn is_real(year: u32, month: u32, day: u32) -> bool {
+    (1..=12).contains(&month) && (1..=month_length(year, month)).contains(&day)
+}
+
 impl Day {
     /// The day of a number yyyymmdd, if it is a real one.
     pub fn new(yyyymmdd: u32) -> Option<Day> {
         let (year, month, day) = (yyyymmdd / 10_000, yyyymmdd / 100 % 100, yyyymmdd % 100);
-        let real = (1900..=9999).contains(&year)
-            && (1..=12).contains(&month)
-            && (1..=month_length(year, month)).contains(&day);
-        real.then_some(Day(yyyymmdd))
+        ((1900..=9999).contains(&year) && is_real(year, month, day)).then_some(Day(yyyymmdd))
     }
 
     /// Reads yyyy-mm-dd.

@@ -77,7 +77,6 @@ impl<'a> Reader<'_, 'a> {
         self.check(42, forms::text(350));
         self.check(46, forms::multiplier);
         self.check(58, forms::capitals::<2>);
-        let _ = self.needed(59, forms::executor);
         self.check(60, forms::capitals::<2>);
         self.check(61, forms::one_of(&[b"RFPT", b"NLIQ", b"OILQ", b"PRIC", b"SIZE", b"ILQD"]));
         self.check(62, forms::one_of(&[b"SESH", b"SSEX", b"SELL", b"UNDI"]));
@@ -179,6 +178,8 @@ pub struct Report<'a> {
     pub delivery: Optional<&'a [u8]>,
     /// 57
     pub investor: Optional<Party<'a>>,
+    /// 59
+    pub executor: Form<Party<'a>>,
 }
 
 impl<'a> Report<'a> {
@@ -227,6 +228,7 @@ impl<'a> Report<'a> {
             expiry: reader.optional(55, Day::read),
             delivery: reader.optional(56, forms::one_of(&[b"PHYS", b"CASH", b"OPTL"])),
             investor: reader.optional(57, forms::investor),
+            executor: reader.needed(59, forms::executor),
         }
     }
 

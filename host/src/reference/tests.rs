@@ -32,6 +32,7 @@ struct Sample {
     register: Vec<u8>,
     day: u32,
     micro: u64,
+    polish: u32,
     findings: Vec<u16>,
 }
 
@@ -47,7 +48,8 @@ fn clean() -> Sample {
         register: vec![0; 9 + 4 * 74],
         day: 20250322,
         micro: 43_200_000_000,
-        findings: vec![FILLER; 140],
+        polish: 0,
+        findings: vec![FILLER; 145],
     };
     sample.register[..5].copy_from_slice(b"TRN\x01\x00");
     for (cell, value) in [
@@ -102,6 +104,7 @@ impl Sample {
             register: &mut self.register,
             day: self.day,
             micro: self.micro,
+            polish: self.polish,
             findings: &mut self.findings,
         })
     }
@@ -150,7 +153,7 @@ fn a_clean_line_is_entered() {
     assert!(sample.register[32..82].iter().all(|byte| *byte == 0));
     assert_eq!(sample.register[82], 1);
     assert_eq!(sample.register[83..], before[83..]);
-    assert_eq!(sample.findings, [FILLER; 140]);
+    assert_eq!(sample.findings, [FILLER; 145]);
 }
 
 #[test]
@@ -214,7 +217,7 @@ fn refusals_at_their_edges() {
 
 #[test]
 fn the_place_of_each_code() {
-    // 023 is the lowest bit of the first word; 1001 is the 74th code, 1065 the last.
+    // 023 is the lowest bit of the first word; 1001 is the 74th code, 1065 the last but for Polish identifiers.
     let mut sample = clean();
     sample.judge();
     assert_eq!(sample.judge().words, [1, 0, 0]);
@@ -562,4 +565,196 @@ fn index_terms_go_by_the_underlying() {
     assert_eq!(option.with(&[(47, "OTHR:~")]).codes(), [490, 1047]);
     assert_eq!(option.with(&[(47, "OTHR:"), (49, swap)]).codes(), [1049]);
     assert_eq!(option.with(&[(47, "OTHR:"), (49, other)]).codes(), []);
+}
+
+/// The clean line, in a call that asks for Polish identifiers. PL is a country.
+fn polish() -> Sample {
+    let mut sample = clean();
+    sample.cty = list("CTY", &[row("DE", b"", 0, u32::MAX), row("PL", b"", 0, u32::MAX)]);
+    sample.polish = 1;
+    sample
+}
+
+/// The cells with Polish identifiers, each with its date of birth where there is one.
+const POLISH_CELLS: [(usize, Option<usize>); 6] =
+    [(7, Some(11)), (12, Some(15)), (16, Some(20)), (21, Some(24)), (57, None), (59, None)];
+
+/// The codes of an identifier in each of the cells alone, beside this date of birth; the same for all of them, as far
+/// as they have a date. With the flag off there are none of the three.
+fn identified(identifier: &str, birth: &str) -> Vec<u16> {
+    let mut found = POLISH_CELLS.map(|(cell, birth_cell)| {
+        let mut sample = polish().with(&[(7, "INTC"), (11, ""), (cell, identifier)]);
+        if let Some(birth_cell) = birth_cell {
+            sample.set(birth_cell, birth);
+        }
+        let codes = sample.codes();
+        sample.polish = 0;
+        let mut without = codes.clone();
+        without.retain(|code| *code < 3307);
+        assert_eq!(sample.codes(), without, "{identifier}");
+        codes
+    });
+    let dated = found[0].clone();
+    let undated: Vec<u16> = dated.iter().copied().filter(|code| *code != 3309).collect();
+    assert!(found[..4].iter().all(|codes| *codes == dated), "{identifier}: {found:?}");
+    assert!(found[4..].iter().all(|codes| *codes == undated), "{identifier}: {found:?}");
+    std::mem::take(&mut found[0])
+}
+
+#[test]
+fn polish_numbers_that_are_right() {
+    assert_eq!(identified("NIDN:PL44051401359", ""), []);
+    assert_eq!(identified("NIDN:PL44051401359", "1944-05-14"), []);
+    assert_eq!(identified("NIDN:PL02070803628", "1902-07-08"), []);
+    for birth in ["", "1944-05-14", "1912-05-01"] {
+        assert_eq!(identified("NIDN:PL1234563218", birth), []);
+        assert_eq!(identified("NIDN:PL0000000000", birth), []);
+    }
+}
+
+#[test]
+fn polish_numbers_that_are_none() {
+    for behind in ["1", "440514013", "440514013591", "A4051401359", "4405140135A", "123456321A", "ABCDEFGHIJ"] {
+        // Neither the check digit nor the day is looked at then.
+        for birth in ["", "1944-05-14", "1944-05-15"] {
+            assert_eq!(identified(&format!("NIDN:PL{behind}"), birth), [3307]);
+        }
+    }
+    assert_eq!(identified(&format!("NIDN:PL{}", "0".repeat(33)), ""), [3307]);
+}
+
+#[test]
+fn polish_check_digits() {
+    assert_eq!(identified("NIDN:PL44051401358", ""), [3308]);
+    assert_eq!(identified("NIDN:PL44051401350", "1944-05-14"), [3308]);
+    assert_eq!(identified("NIDN:PL1234563217", "1944-05-14"), [3308]);
+    // The sum of a NIP leaves ten.
+    for digit in 0..=9 {
+        assert_eq!(identified(&format!("NIDN:PL000000003{digit}"), ""), [3308]);
+    }
+}
+
+#[test]
+fn polish_days_of_birth() {
+    for birth in ["1944-05-13", "1944-05-15", "1944-06-14", "1945-05-14", "2004-05-14", "1900-01-01"] {
+        assert_eq!(identified("NIDN:PL44051401359", birth), [3309]);
+        // The check digit is another matter.
+        assert_eq!(identified("NIDN:PL44051401358", birth), [3308, 3309]);
+    }
+    // The same year, month and day of other centuries, of which the last is to come.
+    assert_eq!(identified("NIDN:PL02070803628", "2002-07-08"), [3309]);
+    assert_eq!(polish().with(&[(7, "NIDN:PL02070803628"), (11, "2102-07-08")]).codes(), [110, 3309]);
+    assert_eq!(polish().with(&[(7, "NIDN:PL02470803620"), (11, "2102-07-08")]).codes(), [110]);
+}
+
+#[test]
+fn polish_days_that_are_none() {
+    // 29 February 1900, the month 00, the day 00; all with right check digits.
+    for number in ["00022900003", "44001400001", "44050000009"] {
+        for birth in ["", "1900-03-01", "1944-05-14"] {
+            assert_eq!(identified(&format!("NIDN:PL{number}"), birth), [3309], "{number} {birth}");
+        }
+        let wrong = format!("NIDN:PL{}6", &number[..10]);
+        assert_eq!(identified(&wrong, ""), [3308, 3309]);
+    }
+    // 29 February 1804 is a day, but not one that a date cell can hold.
+    assert_eq!(identified("NIDN:PL04822900005", ""), []);
+    assert_eq!(identified("NIDN:PL04822900005", "1904-02-29"), [3309]);
+}
+
+#[test]
+fn polish_cells_with_form_findings() {
+    let sample = polish().with(&[(11, ""), (15, ""), (20, ""), (24, "")]);
+    // In the date cell: 3309 alone falls silent, for a number that names no day too.
+    for (cell, birth_cell, code) in [(7, 11, 1011), (12, 15, 1015), (16, 20, 1020), (21, 24, 1024)] {
+        for (number, found) in [("44051401359", None), ("44051401358", Some(3308)), ("00022900003", None)] {
+            let codes = sample.with(&[(cell, &format!("NIDN:PL{number}")), (birth_cell, "1900-02-29")]).codes();
+            assert_eq!(codes, [code].into_iter().chain(found).collect::<Vec<u16>>());
+        }
+        assert_eq!(sample.with(&[(cell, "NIDN:PL1"), (birth_cell, "?")]).codes(), [code, 3307]);
+    }
+    // In one of the cells: the others still speak.
+    let both = sample.with(&[(7, "NIDN:PL1"), (57, "NIDN:PL44051401358")]);
+    assert_eq!(both.codes(), [3307, 3308]);
+    assert_eq!(both.with(&[(7, "NIDN:PL\u{7f}")]).codes(), [1007, 3308]);
+    assert_eq!(both.with(&[(57, "NIDN:PL4405140135 ")]).codes(), [1057, 3307]);
+    assert_eq!(both.with(&[(59, "NIDN:PL")]).codes(), [1059, 3307, 3308]);
+    // Cell 28 and the lists are not read.
+    assert_eq!(both.with(&[(28, "?")]).codes(), [1028, 3307, 3308]);
+    let mut unlisted = both;
+    unlisted.cty = list("CTY", &[row("DE", b"", 0, u32::MAX)]);
+    assert_eq!(unlisted.codes(), [71, 3307, 3308]);
+}
+
+#[test]
+fn identifiers_that_are_not_polish() {
+    for identifier in
+        ["CCPT:PL1", "CCPT:PL44051401358", "CONCAT:PL19440514JOHN#SMITH", "NIDN:DE1", "NIDN:DE44051401358"]
+    {
+        assert_eq!(identified(identifier, ""), [], "{identifier}");
+    }
+    // Without the person shape there is nothing to look at.
+    for (identifier, codes) in [
+        ("NIDN:PL", &[74][..]),
+        ("NIDN:PL4405140135a", &[74]),
+        ("NIDN:PL-4405140135", &[74]),
+        ("NIDN:PL 44051401358", &[74]),
+        ("NIDN:pl44051401358", &[74]),
+        ("NIDN:Pl44051401358", &[74]),
+        ("NIDN:44051401358PL", &[74]),
+        ("nidn:PL44051401358", &[1007]),
+    ] {
+        assert_eq!(polish().with(&[(7, identifier), (11, "1944-05-15")]).codes(), codes, "{identifier}");
+    }
+    for nobody in ["INTC", "MIC:XETR", &format!("LEI:{E}")] {
+        assert_eq!(polish().with(&[(7, nobody), (11, "1944-05-15")]).codes(), []);
+    }
+}
+
+#[test]
+fn polish_codes_come_once_and_last() {
+    let wrong = "NIDN:PL44051401358";
+    let mut sample = polish().with(&[(7, wrong), (12, wrong), (16, wrong), (21, wrong), (57, wrong), (59, wrong)]);
+    assert_eq!(sample.with(&[(11, ""), (65, "")]).codes(), [1065, 3308]);
+    sample = sample.with(&[(16, "NIDN:PL1"), (59, "NIDN:PL1"), (65, "")]);
+    assert_eq!(sample.codes(), [1065, 3307, 3308, 3309]);
+    assert_eq!(sample.judge().words, [0, 0, 0b1111 << 9]);
+    assert_eq!(polish().with(&[(59, "NIDN:PL1")]).judge().words, [0, 0, 1 << 10]);
+}
+
+#[test]
+fn polish_identifiers_of_other_lines() {
+    let mut sample = polish().with(&[(7, "NIDN:PL44051401358"), (59, "NIDN:PL1")]);
+    assert_eq!(sample.codes(), [3307, 3308, 3309]);
+    assert_eq!(sample.with(&[(1, "CXL")]).codes(), [24]);
+    assert_eq!(sample.with(&[(1, "new")]).codes(), [1001]);
+    // Any number but 0 asks for them. A line with nothing else wrong is accepted where none does.
+    for polish in [2, 256, 1 << 16, 1 << 31, u32::MAX] {
+        sample.polish = polish;
+        assert_eq!(sample.codes(), [3307, 3308, 3309]);
+    }
+    sample.polish = 0;
+    assert_eq!(sample.judge(), Outcome::default());
+    assert_eq!(sample.register[5], 1);
+}
+
+#[test]
+fn the_room_that_polish_identifiers_ask_for() {
+    let judged = |status: &str, polish: u32, entries: usize| {
+        let mut sample = clean().with(&[(1, status)]);
+        sample.polish = polish;
+        sample.findings = vec![FILLER; entries];
+        sample.judge().answer
+    };
+    for status in ["NEW", "CXL", ""] {
+        assert_eq!([137, 138, 140, 141].map(|entries| judged(status, 0, entries)), [8, 0, 0, 0]);
+        assert_eq!([137, 138, 140, 141].map(|entries| judged(status, 1, entries)), [8, 8, 8, 0]);
+        assert_eq!([140, 141].map(|entries| judged(status, 1 << 31, entries)), [8, 0]);
+    }
+    // A refusal before comes first, one behind does not.
+    let mut sample = polish();
+    sample.findings.truncate(140);
+    assert_eq!(sample.with(&[(65, "FALSE|")]).refused(), 8);
+    sample.day = 0;
+    assert_eq!(sample.refused(), 7);
 }
