@@ -86,7 +86,7 @@ impl Calls {
 
     /// Changes one thing about a call, mostly its line.
     fn change(&mut self, case: &mut Case) {
-        match self.rng.below(16) {
+        match self.rng.below(17) {
             0..=4 => self.change_bytes(&mut case.line, b'|'),
             5..=8 => self.change_cell(&mut case.line),
             9..=10 => {
@@ -98,6 +98,7 @@ impl Calls {
             11..=12 => self.change_bytes(&mut case.register, 0),
             13 => case.register = self.before.register.clone(),
             14 => self.change_moment(case),
+            15 => self.change_flag(case),
             _ => self.change_findings(case),
         }
     }
@@ -151,10 +152,17 @@ impl Calls {
         case.micro = rng.of(&[0, 86_399_999_999, 86_400_000_000, u64::MAX, micro]);
     }
 
+    /// Off, on, or on by a number that a host might not mean.
+    fn change_flag(&mut self, case: &mut Case) {
+        let rng = &mut self.rng;
+        let any = rng.next() as u32;
+        case.polish = rng.of(&[0, 0, 1, 1, 2, 1 << 8, 1 << 16, 1 << 31, u32::MAX, any]);
+    }
+
     fn change_findings(&mut self, case: &mut Case) {
         let rng = &mut self.rng;
         let any = rng.below(300);
-        let length = rng.of(&[0, 1, 137, 138, 139, 200, any]);
+        let length = rng.of(&[0, 1, 137, 138, 139, 140, 141, 142, 200, any]);
         case.findings = (0..length).map(|_| rng.next() as u16).collect();
     }
 
@@ -182,6 +190,7 @@ impl Calls {
         }
         case.register = rng.noise(400);
         self.change_moment(case);
+        self.change_flag(case);
         self.change_findings(case);
     }
 }

@@ -31,6 +31,7 @@ extern "C" {
         reg_len: usize,
         day: u32,
         micro: u64,
+        polish: u32,
         findings: *mut u16,
         findings_len: usize,
     ) -> Verdict;
@@ -38,7 +39,7 @@ extern "C" {
 
 /// Judges one call by the proved function.
 pub fn judge(call: Call) -> Outcome {
-    let Call { line, lei, cty, ccy, ven, ins, register, day, micro, findings } = call;
+    let Call { line, lei, cty, ccy, ven, ins, register, day, micro, polish, findings } = call;
     // Slices are what the header asks for: good for their lengths, aligned, and those that are written overlap nothing.
     let verdict = unsafe {
         boanhetri_judge(
@@ -58,6 +59,7 @@ pub fn judge(call: Call) -> Outcome {
             register.len(),
             day,
             micro,
+            polish,
             findings.as_mut_ptr(),
             findings.len(),
         )

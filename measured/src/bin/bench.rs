@@ -3,6 +3,7 @@
 use std::process::ExitCode;
 use std::time::{Duration, Instant};
 
+use host::codes::COUNT_WITHOUT_POLISH;
 use host::reference::{judge_line, Call, Lists, Moment, Register};
 use host::{sized_bench_day, BenchDay};
 
@@ -20,16 +21,18 @@ const LINES_GROWING: usize = 1000;
 
 const SIZES: [usize; 4] = [64, 1000, 10_000, 100_000];
 
-/// Judges all lines of a day by the proved function. Hands back how many are clean.
+/// Judges all lines of a day by the proved function, without asking for Polish identifiers. Hands back how many are
+/// clean.
 #[inline(never)]
 fn ours(day: &BenchDay, register: &mut [u8]) -> usize {
     let [lei, cty, ccy, ven, ins] = &day.lists;
     let (day, micro, lines) = (day.day, day.micro, &day.lines);
-    let mut findings = [0; 138];
+    let mut findings = [0; COUNT_WITHOUT_POLISH];
     let mut clean = 0;
     for line in lines {
         let (register, findings) = (&mut *register, &mut findings[..]);
-        let outcome = measured::judge(Call { line, lei, cty, ccy, ven, ins, register, day, micro, findings });
+        let outcome =
+            measured::judge(Call { line, lei, cty, ccy, ven, ins, register, day, micro, polish: 0, findings });
         clean += usize::from(outcome.answer == 0 && outcome.count == 0);
     }
     clean
@@ -39,10 +42,10 @@ fn ours(day: &BenchDay, register: &mut [u8]) -> usize {
 #[inline(never)]
 fn reference(day: &BenchDay, lists: &Lists, register: &mut Register) -> usize {
     let moment = Moment::new(day.day, day.micro).expect("the moment of a day");
-    let mut findings = [0; 138];
+    let mut findings = [0; COUNT_WITHOUT_POLISH];
     let mut clean = 0;
     for line in &day.lines {
-        let outcome = judge_line(lists, register, moment, &mut findings, line);
+        let outcome = judge_line(lists, register, moment, false, &mut findings, line);
         clean += usize::from(outcome.answer == 0 && outcome.count == 0);
     }
     clean

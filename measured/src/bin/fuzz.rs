@@ -5,7 +5,7 @@ use std::process::ExitCode;
 use std::sync::atomic::{AtomicU64, Ordering};
 use std::time::{Duration, Instant};
 
-use host::codes::CODES;
+use host::codes::{CODES, COUNT};
 use host::file::{Answered, Case};
 use host::reference::Call;
 use measured::changes::Calls;
@@ -75,6 +75,7 @@ impl Places {
             register: &mut *register,
             day: case.day,
             micro: case.micro,
+            polish: case.polish,
             findings: &mut *findings,
         });
         Answered { outcome, findings: findings.to_vec(), register: register.to_vec() }
@@ -107,7 +108,7 @@ struct Tally {
     calls: u64,
     answers: [u64; 12],
     clean: u64,
-    codes: [u64; 138],
+    codes: [u64; COUNT],
 }
 
 impl Tally {
@@ -127,7 +128,7 @@ impl Tally {
         println!("refused, by number: {}", refused.join(", "));
         let seen = self.codes.iter().filter(|times| **times > 0).count();
         let (rarest, code) = self.codes.iter().zip(CODES).min().expect("there are codes");
-        println!("codes: {seen} of 138 seen; the rarest is {code:03}, seen {rarest} times");
+        println!("codes: {seen} of {COUNT} seen; the rarest is {code:03}, seen {rarest} times");
     }
 }
 
@@ -153,9 +154,9 @@ fn check(places: &mut Places, case: &Case) -> Result<Answered, String> {
 
 /// A call for a message. The seed makes it again, so the lists and the register are not printed.
 fn in_words(case: &Case) -> String {
-    let Case { line, register, day, micro, findings, .. } = case;
-    let line = line.escape_ascii();
-    format!("day {day}, micro {micro}, register of {} bytes, {} entries\n{line}", register.len(), findings.len())
+    let Case { line, register, day, micro, polish, findings, .. } = case;
+    let (line, register, entries) = (line.escape_ascii(), register.len(), findings.len());
+    format!("day {day}, micro {micro}, polish {polish}, register of {register} bytes, {entries} entries\n{line}")
 }
 
 fn run(seed: u64, count: u64, seconds: u64) -> Result<(), String> {
@@ -166,7 +167,7 @@ fn run(seed: u64, count: u64, seconds: u64) -> Result<(), String> {
     let start = Instant::now();
     let mut calls = Calls::new(seed);
     let mut places = Places::new();
-    let mut tally = Tally { calls: 0, answers: [0; 12], clean: 0, codes: [0; 138] };
+    let mut tally = Tally { calls: 0, answers: [0; 12], clean: 0, codes: [0; COUNT] };
     while tally.calls < count && start.elapsed() < Duration::from_secs(seconds) {
         CALL.store(tally.calls + 1, Ordering::Relaxed);
         let case = calls.next_call();
