@@ -181,9 +181,15 @@ impl Recipe {
 
     /// The next Polish identifier in turn, right or wrong.
     fn polish(&mut self) -> (Case, Intent) {
-        let (draft, codes) = self.maker.polish_turn(self.numbers);
+        let turn = self.numbers;
         self.numbers += 1;
-        (self.maker.case(&draft), Intent::Exactly(codes))
+        let (draft, codes) = self.maker.polish_turn(turn);
+        let case = self.maker.case(&draft);
+        // Lines of every status among them.
+        if [4, 15].contains(&(turn % 16)) {
+            return self.maker.in_little_room(case, codes);
+        }
+        (case, Intent::Exactly(codes))
     }
 
     /// The next kind of clean line in turn; after all of them a cancellation.

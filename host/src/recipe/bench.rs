@@ -15,7 +15,8 @@ const ROOM: usize = 1024;
 /// How many pairs the clean lines are about. They stay fewer than there is room for.
 const PAIRS: usize = 1000;
 
-/// Lines with all that they are judged by. They are meant to be judged in order, over the one register.
+/// Lines with all that they are judged by. They are meant to be judged in order, over the one register, and without
+/// asking for Polish identifiers.
 #[derive(Clone, Debug)]
 pub struct BenchDay {
     /// LEI, CTY, CCY, VEN, INS.

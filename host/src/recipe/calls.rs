@@ -203,7 +203,7 @@ impl Maker {
             7 => self.damage_moment(case),
             8 => {
                 let enough = codes::count(case.polish != 0);
-                let entries = self.rng.of(&[0, 1, 64, enough - 2, enough - 1, enough - 1, 137]);
+                let entries = self.rng.of(&[0, 1, 64, 137, enough - 3, enough - 2, enough - 1, enough - 1, enough - 1]);
                 case.findings = vec![FILLER; entries];
             }
             9 => self.overfill(&mut case.line),

@@ -334,8 +334,9 @@ impl Maker {
                 draft.set(cell, rng.of(NAMES));
             }
         }
+        let known = (!draft.is_blank(birth_cell)).then_some(birth);
         let may_become = self.poland_listed(draft.t);
-        self.with_right_number(scheme, identifier, Some(birth), may_become)
+        self.with_right_number(scheme, identifier, known, may_become)
     }
 
     fn set_parties(&mut self, draft: &mut Draft, entity: &[u8; 20]) {
@@ -712,7 +713,8 @@ impl Maker {
     pub fn case(&mut self, draft: &Draft) -> Case {
         let register = self.register(draft);
         let enough = codes::count(draft.polish != 0);
-        let entries = if self.rng.below(10) < 7 { enough } else { self.rng.of(&[enough + 1, 141, 150, 200]) };
+        let entries =
+            if self.rng.below(10) < 7 { enough } else { self.rng.of(&[enough + 1, enough + 2, enough + 3, 200]) };
         Case {
             line: draft.line(),
             lists: self.world.lists.clone(),

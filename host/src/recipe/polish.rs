@@ -1,11 +1,13 @@
 //! Polish identifiers: numbers that are right, numbers that just are not, and what comes of them, read a second time.
 
+use crate::file::{Case, FILLER};
 use crate::reference::Day;
 
 use super::draft::{date, day_between, days_after, earliest, Draft, Maker, Want, NO_DEAL};
 use super::rng::{Rng, CAPITALS, DIGITS};
 use super::rules::party_codes;
 use super::values::{well_shaped, BAD_DATES};
+use super::Intent;
 
 /// The cells in which such an identifier is looked at, each with its date cell, which the last two do not have.
 const CELLS: [[usize; 2]; 6] = [[7, 11], [12, 15], [16, 20], [21, 24], [57, 0], [59, 0]];
@@ -16,26 +18,24 @@ const DATED: usize = 4;
 /// The months at which the reading of a PESEL changes, and those beside.
 const MONTHS: [usize; 21] = [0, 1, 12, 13, 20, 21, 32, 33, 40, 41, 52, 53, 60, 61, 72, 73, 80, 81, 92, 93, 99];
 
-/// Years of a century, months and days, real in some century or in none.
-const DAYS: [(usize, usize, usize); 18] = [
-    (0, 2, 29),
+/// Years of a century, months and days at their edges, real or not. 29 February of the year 0 is not among them.
+const DAYS: [(usize, usize, usize); 16] = [
     (4, 2, 29),
-    (96, 2, 29),
     (99, 2, 29),
-    (0, 2, 28),
     (4, 2, 30),
     (0, 3, 0),
-    (1, 1, 31),
+    (50, 7, 0),
     (1, 1, 32),
-    (50, 4, 30),
+    (50, 1, 32),
+    (99, 12, 32),
     (50, 4, 31),
     (50, 6, 31),
     (50, 9, 31),
     (50, 11, 31),
-    (0, 1, 1),
+    (1, 1, 31),
+    (50, 4, 30),
     (99, 12, 31),
-    (99, 12, 32),
-    (50, 8, 99),
+    (0, 1, 1),
 ];
 
 /// The centuries in the order of their months: 1 to 12, 21 to 32, 41 to 52, 61 to 72, 81 to 92.
@@ -52,8 +52,49 @@ enum Birth {
 /// A number behind PL, or what is none, with what the date cell holds.
 type Situation = (Vec<u8>, Birth);
 
-/// How many situations there are. It has no divisor in common with the number of cells.
-const SITUATIONS: usize = 23;
+/// The kinds of situations.
+#[derive(Clone, Copy, Debug, PartialEq, Eq)]
+enum Kind {
+    /// Right, with the day in the date cell; with nothing there; of a taxpayer.
+    RightPesel,
+    PeselAlone,
+    RightNip,
+    /// No number.
+    OtherLength,
+    LetterInPesel,
+    LetterInNip,
+    /// By the last digit: right only for some of those that end in 0 and where equal digits are exchanged.
+    OtherLastDigit,
+    OtherDigitOfPesel,
+    OtherDigitOfNip,
+    RemainderTen,
+    EndingInZero,
+    Exchanged,
+    /// By the day: months and days at their edges, with a date cell that is blank or not.
+    AnotherDay,
+    AnotherCentury,
+    MonthAlone,
+    MonthBesideDate,
+    DayAlone,
+    DayBesideDate,
+    Of1800s,
+    /// By the last digit and the day; beside a malformed date cell.
+    OtherLastDigitAndDay,
+    OtherLastDigitAndNoDay,
+    BesideMalformed,
+    NoDayBesideMalformed,
+}
+
+use Kind::*;
+
+/// All of them, those with days at their edges twice. Their number has no divisor in common with that of the cells, so
+/// that all meet in turn.
+const KINDS: [Kind; 25] = [
+    RightPesel, OtherLength, DayAlone, OtherLastDigit, AnotherDay, DayBesideDate, PeselAlone, LetterInPesel,
+    OtherDigitOfPesel, AnotherCentury, RightNip, LetterInNip, OtherDigitOfNip, MonthAlone, RemainderTen,
+    MonthBesideDate, EndingInZero, DayAlone, Exchanged, DayBesideDate, Of1800s, OtherLastDigitAndDay,
+    OtherLastDigitAndNoDay, BesideMalformed, NoDayBesideMalformed,
+];
 
 /// The flag of a call: as often 0 as not, and now and then a number of which only some bits might be looked at.
 pub fn flag(rng: &mut Rng) -> u32 {
@@ -65,7 +106,11 @@ pub fn flag(rng: &mut Rng) -> u32 {
 }
 
 fn flag_on(rng: &mut Rng) -> u32 {
-    rng.of(&[1, 1, 1, 1, 1, 1, 1, 2, 256, 1 << 16, 1 << 31, u32::MAX])
+    if rng.one_in(4) {
+        rng.of(&[2, 256, 1 << 16, 1 << 31, u32::MAX])
+    } else {
+        1
+    }
 }
 
 /// The sum of digits, each times its weight.
@@ -158,9 +203,26 @@ fn born(rng: &mut Rng, t: Day) -> Day {
     day_between(rng, earliest(), t.min(Day::new(22991231).expect("a real day")))
 }
 
-/// A real day of any century.
+/// A real day of a century, often of its first or last months.
 fn any_start(rng: &mut Rng, century: usize) -> Vec<u8> {
-    start_of(CENTURIES[century % 5] + rng.below(100), rng.between(1, 12), rng.between(1, 28))
+    let month = rng.between(1, 12);
+    let month = rng.of(&[1, 12, month]);
+    start_of(CENTURIES[century % CENTURIES.len()] + rng.below(100), month, rng.between(1, 28))
+}
+
+/// The first six digits of a PESEL that names no real day: by its month, or by the day alone.
+fn start_of_no_day(rng: &mut Rng) -> Vec<u8> {
+    loop {
+        let start = if rng.one_in(3) {
+            format!("44{:02}14", rng.of(&MONTHS)).into_bytes()
+        } else {
+            let (year, month, day) = if rng.one_in(4) { (0, 2, 29) } else { rng.of(&DAYS) };
+            start_of(rng.of(&CENTURIES) + year, month, day)
+        };
+        if named_day(&start).is_none() {
+            return start;
+        }
+    }
 }
 
 /// A right number, of a person born on this day where that is known.
@@ -170,7 +232,7 @@ fn right_number(rng: &mut Rng, birth: Option<Day>) -> Vec<u8> {
         Some(day) if day.number() > 22991231 => nip(rng),
         Some(day) => pesel_of(rng, day),
         None => {
-            let century = rng.below(5);
+            let century = rng.below(CENTURIES.len());
             let start = any_start(rng, century);
             pesel(rng, &start)
         }
@@ -197,31 +259,39 @@ fn as_named(number: &[u8]) -> Birth {
     named_day(number).and_then(Day::new).map_or(Birth::Blank, Birth::On)
 }
 
-/// One of the situations; the round tells places and edges, T the latest day of birth.
-fn situation(rng: &mut Rng, which: usize, round: usize, t: Day) -> Situation {
+/// A situation; the round tells places and edges, T the latest day of birth.
+fn situation(rng: &mut Rng, kind: Kind, round: usize, t: Day) -> Situation {
     let day = born(rng, t);
-    match which {
-        0 => (pesel_of(rng, day), Birth::On(day)),
-        1 => {
+    match kind {
+        RightPesel => (pesel_of(rng, day), Birth::On(day)),
+        PeselAlone => {
             let start = any_start(rng, round);
             (pesel(rng, &start), Birth::Blank)
         }
-        2 => (nip(rng), if rng.one_in(2) { Birth::Blank } else { Birth::On(day) }),
-        3..=5 => no_number(rng, which, round, day),
-        6..=10 | 22 => by_last_digit(rng, which, round, day),
-        _ => by_day(rng, which, round, day),
+        RightNip => (nip(rng), if rng.one_in(2) { Birth::Blank } else { Birth::On(day) }),
+        OtherLength | LetterInPesel | LetterInNip => no_number(rng, kind, round, day),
+        OtherLastDigit | OtherDigitOfPesel | OtherDigitOfNip | RemainderTen | EndingInZero | Exchanged => {
+            by_last_digit(rng, kind, round, day)
+        }
+        AnotherDay | AnotherCentury | MonthAlone | MonthBesideDate | DayAlone | DayBesideDate => {
+            by_day(rng, kind, round, day)
+        }
+        _ => by_day_and_more(rng, kind, day),
     }
 }
 
 /// What is no number by its length, or has a letter in it. The day in it may be right, wrong or none.
-fn no_number(rng: &mut Rng, which: usize, round: usize, day: Day) -> Situation {
+fn no_number(rng: &mut Rng, kind: Kind, round: usize, day: Day) -> Situation {
     let start = rng.text(DIGITS, 6);
     let number = if rng.one_in(2) { pesel_of(rng, day) } else { pesel(rng, &start) };
-    let birth = rng.of(&[0, 1, 2]);
-    let birth = [Birth::Blank, Birth::On(day), Birth::On(another_day(rng, day))][birth].clone();
-    let mut behind = match (which, round % 8) {
-        (4, _) => number,
-        (5, _) => nip(rng),
+    let birth = match rng.below(3) {
+        0 => Birth::Blank,
+        1 => Birth::On(day),
+        _ => Birth::On(another_day(rng, day)),
+    };
+    let mut behind = match (kind, round % 8) {
+        (LetterInPesel, _) => number,
+        (LetterInNip, _) => nip(rng),
         (_, 0) => nip(rng)[..9].to_vec(),
         (_, 1) => [&number[..], &rng.text(DIGITS, 1)].concat(),
         (_, 2) => [&rng.text(DIGITS, 1), &number[..]].concat(),
@@ -231,7 +301,7 @@ fn no_number(rng: &mut Rng, which: usize, round: usize, day: Day) -> Situation {
         (_, 6) => rng.text(DIGITS, 33),
         _ => [&number[..], &nip(rng)].concat(),
     };
-    if which > 3 {
+    if kind != OtherLength {
         let place = round % behind.len();
         behind[place] = rng.of(CAPITALS);
     }
@@ -239,30 +309,33 @@ fn no_number(rng: &mut Rng, which: usize, round: usize, day: Day) -> Situation {
 }
 
 /// Numbers whose last digit is wrong, or just right. What a PESEL names stands in the date cell, where it can.
-fn by_last_digit(rng: &mut Rng, which: usize, round: usize, day: Day) -> Situation {
-    let mut number =
-        if which == 8 || which == 9 || (which > 9 && rng.one_in(2)) { nip(rng) } else { pesel_of(rng, day) };
-    match which {
-        6 => number[10] = b'0' + (number[10] - b'0' + 1 + (round % 9) as u8) % 10,
-        7 | 8 => {
+fn by_last_digit(rng: &mut Rng, kind: Kind, round: usize, day: Day) -> Situation {
+    let of_taxpayer = match kind {
+        OtherDigitOfNip | RemainderTen => true,
+        EndingInZero | Exchanged => rng.one_in(2),
+        _ => false,
+    };
+    let mut number = if of_taxpayer { nip(rng) } else { pesel_of(rng, day) };
+    match kind {
+        OtherLastDigit => number[10] = b'0' + (number[10] - b'0' + 1 + (round % 9) as u8) % 10,
+        OtherDigitOfPesel | OtherDigitOfNip => {
             let place = round % number.len();
             change_digit(rng, &mut number, place);
         }
-        // What no digit can make right.
-        9 => {
+        // No digit is right then, and 0 might seem to be.
+        RemainderTen => {
             number = nine_leaving(rng, 10);
-            number.push(b'0' + (round % 10) as u8);
+            number.push(if round.is_multiple_of(2) { b'0' } else { rng.of(DIGITS) });
         }
-        // Two digits exchanged, which may be the same.
-        22 => {
+        Exchanged => {
             let place = round % (number.len() - 1);
             number.swap(place, place + 1);
         }
-        _ if round.is_multiple_of(3) => number = vec![b'0'; 10],
+        _ if round.is_multiple_of(3) => number = vec![b'0'; number.len()],
         // Sums that leave nothing.
         _ => {
             while number[number.len() - 1] != b'0' {
-                number = if number.len() == 10 { nip(rng) } else { pesel_of(rng, day) };
+                number = if of_taxpayer { nip(rng) } else { pesel_of(rng, day) };
             }
         }
     }
@@ -271,57 +344,60 @@ fn by_last_digit(rng: &mut Rng, which: usize, round: usize, day: Day) -> Situati
 }
 
 /// PESELs whose day is another than that of the date cell, is none, or just is right.
-fn by_day(rng: &mut Rng, which: usize, round: usize, day: Day) -> Situation {
-    let edge = || {
-        let (year, month, day) = DAYS[round / 5 % DAYS.len()];
-        start_of(CENTURIES[round % 5] + year, month, day)
+fn by_day(rng: &mut Rng, kind: Kind, round: usize, day: Day) -> Situation {
+    let number = match kind {
+        MonthAlone | MonthBesideDate => {
+            let month = MONTHS[round % MONTHS.len()];
+            let start = format!("{:02}{month:02}{:02}", rng.below(100), rng.between(1, 28));
+            pesel(rng, start.as_bytes())
+        }
+        DayAlone | DayBesideDate => {
+            // Often the day on which the centuries differ.
+            let (year, month, day) = if rng.one_in(3) { (0, 2, 29) } else { rng.of(&DAYS) };
+            pesel(rng, &start_of(CENTURIES[round % CENTURIES.len()] + year, month, day))
+        }
+        _ => pesel_of(rng, day),
     };
-    let no_day = |rng: &mut Rng| {
-        if rng.one_in(2) {
-            rng.of(&[*b"000229", *b"440014", *b"991332", *b"056131"])
-        } else {
-            *b"009332"
-        }
+    let birth = match kind {
+        AnotherDay => Birth::On(another_day(rng, day)),
+        AnotherCentury => Birth::On(another_century(rng, day)),
+        MonthAlone | DayAlone => Birth::Blank,
+        _ if rng.one_in(3) => Birth::On(day),
+        _ => as_named(&number),
     };
-    let month = format!("{:02}{:02}{:02}", rng.below(100), MONTHS[round % MONTHS.len()], rng.between(1, 28));
-    let other = another_day(rng, day);
-    match which {
-        11 => (pesel_of(rng, day), Birth::On(other)),
-        12 => (pesel_of(rng, day), Birth::On(other_century(rng, day))),
-        13 => (pesel(rng, month.as_bytes()), Birth::Blank),
-        14 => {
-            let number = pesel(rng, month.as_bytes());
-            let birth = if rng.one_in(2) { as_named(&number) } else { Birth::On(day) };
-            (number, birth)
+    (number, birth)
+}
+
+/// PESELs of no day or of the 1800s; with wrong last digits; beside a malformed date cell.
+fn by_day_and_more(rng: &mut Rng, kind: Kind, day: Day) -> Situation {
+    let start = match kind {
+        OtherLastDigitAndNoDay | NoDayBesideMalformed => start_of_no_day(rng),
+        Of1800s => {
+            let number = day.number() as usize;
+            start_of(1800 + number / 10_000 % 100, number / 100 % 100, number % 100)
         }
-        15 => (pesel(rng, &edge()), Birth::Blank),
-        16 => {
-            let number = pesel(rng, &edge());
-            let birth = as_named(&number);
-            (number, if matches!(birth, Birth::Blank) { Birth::On(other) } else { birth })
-        }
-        17 if rng.one_in(2) => (pesel_of(rng, day), Birth::Malformed),
-        17 => {
-            let start = no_day(rng);
-            (pesel(rng, &start), Birth::Malformed)
-        }
-        18 | 20 => {
-            let mut number = pesel_of(rng, day);
-            change_digit(rng, &mut number, 10);
-            (number, if which == 18 { Birth::On(other) } else { Birth::Malformed })
-        }
-        19 => {
-            let start = no_day(rng);
-            let mut number = pesel(rng, &start);
-            change_digit(rng, &mut number, 10);
-            (number, if rng.one_in(2) { Birth::Blank } else { Birth::On(day) })
-        }
-        _ => of_the_1800s(rng, day),
+        _ => pesel_of(rng, day)[..6].to_vec(),
+    };
+    let mut number = pesel(rng, &start);
+    let other_last_digit = match kind {
+        OtherLastDigitAndDay | OtherLastDigitAndNoDay => true,
+        BesideMalformed => rng.one_in(2),
+        _ => false,
+    };
+    if other_last_digit {
+        change_digit(rng, &mut number, 10);
     }
+    let birth = match kind {
+        BesideMalformed | NoDayBesideMalformed => Birth::Malformed,
+        OtherLastDigitAndDay => Birth::On(another_day(rng, day)),
+        _ if rng.one_in(2) => Birth::Blank,
+        _ => Birth::On(day),
+    };
+    (number, birth)
 }
 
 /// The same year, month and day of another century, where there is such a day.
-fn other_century(rng: &mut Rng, day: Day) -> Day {
+fn another_century(rng: &mut Rng, day: Day) -> Day {
     let days: Vec<Day> = CENTURIES
         .iter()
         .filter_map(|century| Day::new(*century as u32 * 10_000 + day.number() % 1_000_000))
@@ -332,14 +408,6 @@ fn other_century(rng: &mut Rng, day: Day) -> Day {
     } else {
         rng.of(&days)
     }
-}
-
-/// A PESEL of the 1800s with the same day of another century in the date cell, or with nothing.
-fn of_the_1800s(rng: &mut Rng, day: Day) -> Situation {
-    let number = day.number() as usize;
-    let start = start_of(1800 + number / 10_000 % 100, number / 100 % 100, number % 100);
-    let birth = if rng.one_in(2) { Birth::Blank } else { Birth::On(day) };
-    (pesel(rng, &start), birth)
 }
 
 /// Which of the cells a code is met in, in turn. 3309 needs a date cell.
@@ -375,8 +443,12 @@ impl Maker {
 
     /// A person from Poland in any of the situations, for a cell that is changed at random.
     pub fn any_polish(&mut self, t: Day) -> Vec<u8> {
-        let (which, round) = (self.rng.below(SITUATIONS), self.rng.below(1000));
-        [b"NIDN:PL", &situation(&mut self.rng, which, round, t).0[..]].concat()
+        [b"NIDN:PL", &self.any_situation(t).0[..]].concat()
+    }
+
+    fn any_situation(&mut self, t: Day) -> Situation {
+        let (kind, round) = (self.rng.of(&KINDS), self.rng.below(1000));
+        situation(&mut self.rng, kind, round, t)
     }
 
     /// Puts a number behind PL into a cell and sets its date cell. Tells all that comes of it.
@@ -425,8 +497,7 @@ impl Maker {
         draft.polish = flag_on(&mut self.rng);
         let right = !hit && self.rng.one_in(2);
         loop {
-            let (kind, round) = (self.rng.below(SITUATIONS), self.rng.below(1000));
-            let situation = situation(&mut self.rng, kind, round, draft.t);
+            let situation = self.any_situation(draft.t);
             let found = self.put_number(&mut draft, which, &situation);
             if right && found.is_empty() {
                 return (draft, found);
@@ -449,7 +520,7 @@ impl Maker {
         let mut found = match step {
             0..=4 => {
                 let single = round * 5 + step;
-                let situation = situation(&mut self.rng, single % SITUATIONS, single / SITUATIONS, draft.t);
+                let situation = situation(&mut self.rng, KINDS[single % KINDS.len()], single / KINDS.len(), draft.t);
                 self.put_number(&mut draft, single % CELLS.len(), &situation)
             }
             6 => self.put_no_number(&mut draft, round),
@@ -463,6 +534,13 @@ impl Maker {
         (draft, found)
     }
 
+    /// Room for as many findings as there are codes, without the three or with them, or for one fewer.
+    pub fn in_little_room(&mut self, mut case: Case, codes: Vec<u16>) -> (Case, Intent) {
+        let (entries, enough) = (self.rng.of(&[137, 138, 140, 141]), if case.polish == 0 { 138 } else { 141 });
+        case.findings = vec![FILLER; entries];
+        (case, if entries < enough { Intent::Refused(8) } else { Intent::Exactly(codes) })
+    }
+
     /// Numbers in several of the cells, often in all.
     fn put_several(&mut self, draft: &mut Draft) -> Vec<u16> {
         let mut cells = [0, 1, 2, 3, 4, 5];
@@ -470,8 +548,7 @@ impl Maker {
         let count = self.rng.of(&[2, 2, 3, 6]);
         let mut found = Vec::new();
         for which in &cells[..count] {
-            let (kind, round) = (self.rng.below(SITUATIONS), self.rng.below(1000));
-            let situation = situation(&mut self.rng, kind, round, draft.t);
+            let situation = self.any_situation(draft.t);
             found.extend(self.put_number(draft, *which, &situation));
         }
         found
@@ -481,49 +558,37 @@ impl Maker {
     /// finding.
     fn put_no_number(&mut self, draft: &mut Draft, turn: usize) -> Vec<u16> {
         let which = turn % CELLS.len();
-        let [cell, _] = CELLS[which];
-        let dated = which < DATED;
+        let ([cell, _], dated) = (CELLS[which], which < DATED);
         let day = born(&mut self.rng, draft.t);
         let mut number = pesel_of(&mut self.rng, day);
         change_digit(&mut self.rng, &mut number, 10);
-        let birth = if self.rng.one_in(2) { Birth::On(days_after(day, 1).min(draft.t)) } else { Birth::Blank };
-        let mut found: Vec<u16> =
-            if dated { self.put_birth(draft, which, &birth).into_iter().collect() } else { vec![] };
-        let unlisted = (dated && !self.poland_listed(draft.t)).then(|| party_codes(cell)[1]);
-        let value = match turn / CELLS.len() % 5 {
-            0 => {
-                found.extend(unlisted);
-                let behind = if self.rng.one_in(2) { &number[..] } else { &number[..9] };
-                [b"CCPT:PL", behind].concat()
-            }
+        let birth = if self.rng.one_in(2) { days_after(day, 1).min(draft.t) } else { day };
+        let mut found = Vec::new();
+        if dated {
+            found.extend(self.put_birth(draft, which, &Birth::On(birth)));
+        }
+        let kind = turn / CELLS.len() % 5;
+        let value = match kind {
+            0 => [b"CCPT:PL", &number[..self.rng.of(&[9, 10, 11])]].concat(),
             1 => {
-                found.extend(unlisted);
                 let mut identifier = well_shaped(&mut self.rng, "CONCAT:", b"PL");
-                if let Birth::On(day) = birth {
-                    identifier[2..10].copy_from_slice(day.number().to_string().as_bytes());
-                }
+                identifier[2..10].copy_from_slice(birth.number().to_string().as_bytes());
                 [b"CONCAT:", &identifier[..]].concat()
             }
-            2 => {
-                let country =
-                    if dated { self.country_but_poland(draft.t) } else { self.rng.of(&[*b"LP", *b"PA", *b"AL"]) };
-                [b"NIDN:", &country[..], &number].concat()
-            }
-            3 => {
-                let value = without_shape(&mut self.rng, &number);
-                if value.starts_with(b"NIDN:PL") {
-                    found.extend(unlisted);
-                }
-                found.push(if dated { party_codes(cell)[4] } else { 1000 + cell as u16 });
-                value
-            }
-            _ => {
-                found.push(1000 + cell as u16);
-                let value = without_form(&mut self.rng, &number);
-                draft.spoil(cell, value);
-                return found;
-            }
+            2 if dated => [b"NIDN:", &self.country_but_poland(draft.t)[..], &number].concat(),
+            2 => [b"NIDN:", &self.rng.of(&[b"LP", b"PA", b"AL", b"DE"])[..], &number].concat(),
+            3 => without_shape(&mut self.rng, &number),
+            _ => without_form(&mut self.rng, &number),
         };
+        let polish = ["CCPT:PL", "CONCAT:PL", "NIDN:PL"].iter().any(|start| value.starts_with(start.as_bytes()));
+        match kind {
+            3 if dated => found.push(party_codes(cell)[4]),
+            3 | 4 => found.push(1000 + cell as u16),
+            _ => {}
+        }
+        if dated && kind < 4 && polish && !self.poland_listed(draft.t) {
+            found.push(party_codes(cell)[1]);
+        }
         draft.set(cell, value);
         found
     }
@@ -605,8 +670,8 @@ mod tests {
         let mut rng = Rng::new(1);
         let t = Day::new(20250322).unwrap();
         let mut seen = std::collections::BTreeSet::new();
-        for turn in 0..SITUATIONS * 100 {
-            let (behind, birth) = situation(&mut rng, turn % SITUATIONS, turn / SITUATIONS, t);
+        for (turn, kind) in KINDS.into_iter().cycle().take(KINDS.len() * 100).enumerate() {
+            let (behind, birth) = situation(&mut rng, kind, turn / KINDS.len(), t);
             assert!((1..=33).contains(&behind.len()));
             seen.insert(found(&behind, Some(&birth)));
         }
