@@ -5,18 +5,21 @@ use mathlib.Core.Bool.{Bool, true, _&&_}
 use native.Mathlib.Omega.{arith}
 use lib.Dec.{leb, ltb}
 use borrow.Author.Tests.{leb-true, ltb-true, ltb-false, le-leb}
-use Rattle.calendar.specs.Day.{yearOf, monthOf, dayOf, dayAt, monthLength, isDay}
+use Rattle.calendar.specs.Day.{yearOf, monthOf, dayOf, dayAt, monthLength, isDayOf, isDay}
 use Rattle.text.proofs.Bools.{and-left, and-right, by-test}
 use Rattle.calendar.proofs.DayNumber.{yearLength, total, daysTo, dayNumber}
 use Rattle.calendar.proofs.Sums.{total-none, total-on, total-le, months-of-year, month-small}
 
-pub record Real (y m d : ℕ) : Type 0 where
-  pub year-from : 1900 ≤ y
-  pub year-to : y ≤ 9999
+pub record RealOf (first last y m d : ℕ) : Type 0 where
+  pub year-from : first ≤ y
+  pub year-to : y ≤ last
   pub month-from : 1 ≤ m
   pub month-to : m ≤ 12
   pub day-from : 1 ≤ d
   pub day-to : d ≤ monthLength y m
+
+abbrev pub Real : ℕ → ℕ → ℕ → Type 0
+Real y m d = RealOf 1900 9999 y m d
 
 six : (a b p q r s : Bool) → (a && b && p && q && r && s) ≡ true → (a ≡ true) × (b ≡ true) × (p ≡ true) × (q ≡ true) × (r ≡ true) × (s ≡ true)
 six a b p q r s e =
@@ -33,21 +36,24 @@ six a b p q r s e =
     )
 
 module _ (ymd : ℕ) where
-  pub real : isDay ymd ≡ true → Real (yearOf ymd) (monthOf ymd) (dayOf ymd)
-  unfolding isDay
-  real e =
+  pub real-of : (first last : ℕ) → isDayOf first last ymd ≡ true → RealOf first last (yearOf ymd) (monthOf ymd) (dayOf ymd)
+  real-of first last e =
       let y = yearOf ymd in
       let m = monthOf ymd in
       let d = dayOf ymd in
-      let t = six (leb 1900 y) (leb y 9999) (leb 1 m) (leb m 12) (leb 1 d) (leb d (monthLength y m)) e in
+      let t = six (leb first y) (leb y last) (leb 1 m) (leb m 12) (leb 1 d) (leb d (monthLength y m)) e in
       record {
-        year-from = leb-true 1900 y (t .0);
-        year-to = leb-true y 9999 (t .1);
+        year-from = leb-true first y (t .0);
+        year-to = leb-true y last (t .1);
         month-from = leb-true 1 m (t .2);
         month-to = leb-true m 12 (t .3);
         day-from = leb-true 1 d (t .4);
         day-to = leb-true d (monthLength y m) (t .5);
       }
+
+  pub real : isDay ymd ≡ true → Real (yearOf ymd) (monthOf ymd) (dayOf ymd)
+  unfolding isDay
+  real e = real-of 1900 9999 e
 
   pub number-is : isDay ymd ≡ true → dayNumber ymd ≡ daysTo (yearOf ymd) (monthOf ymd) (dayOf ymd)
   unfolding dayNumber

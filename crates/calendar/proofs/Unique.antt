@@ -6,6 +6,8 @@ use Rattle.calendar.proofs.dates.is_date.Kinds as is-date-kinds
 use Rattle.calendar.proofs.dates.is_date.Reads as is-date-reads
 use Rattle.calendar.proofs.days.is_day.Kinds as is-day-kinds
 use Rattle.calendar.proofs.days.is_day.Reads as is-day-reads
+use Rattle.calendar.proofs.days.is_day_of.Kinds as is-day-of-kinds
+use Rattle.calendar.proofs.days.is_day_of.Reads as is-day-of-reads
 use Rattle.calendar.proofs.days.five_years_before.Kinds as five-years-before-kinds
 use Rattle.calendar.proofs.days.five_years_before.Reads as five-years-before-reads
 use Rattle.calendar.proofs.moments.parse_moment.Kinds as parse-moment-kinds
@@ -25,6 +27,9 @@ is-date-determined κs a x y s t = same-both
 
 pub is-day-determined : Determined is-day-kinds.ps is-day-kinds.r is-day-reads.Post
 is-day-determined κs a x y s t = same-both
+
+pub is-day-of-determined : Determined is-day-of-kinds.ps is-day-of-kinds.r is-day-of-reads.Post
+is-day-of-determined κs a x y s t = same-both
 
 pub five-years-before-determined : Determined five-years-before-kinds.ps five-years-before-kinds.r five-years-before-reads.Post
 five-years-before-determined κs a x y s t = same-both

@@ -25,15 +25,19 @@ monthLength y m =
     cond (eqb m 2) (cond (leap y) 29 28)
     (cond (eqb m 4 || eqb m 6 || eqb m 9 || eqb m 11) 30 31)
 
--- a real day of the years 1900 to 9999
-unfoldable pub isDay : ℕ → Bool
-isDay ymd =
-    leb 1900 (yearOf ymd)
-    && leb (yearOf ymd) 9999
+-- a real day of the years `first` to `last`
+abbrev pub isDayOf : ℕ → ℕ → ℕ → Bool
+isDayOf first last ymd =
+    leb first (yearOf ymd)
+    && leb (yearOf ymd) last
     && leb 1 (monthOf ymd)
     && leb (monthOf ymd) 12
     && leb 1 (dayOf ymd)
     && leb (dayOf ymd) (monthLength (yearOf ymd) (monthOf ymd))
+
+-- of the years 1900 to 9999, as cells and the submission moment have them
+unfoldable pub isDay : ℕ → Bool
+isDay ymd = isDayOf 1900 9999 ymd
 
 -- 29 February
 abbrev pub leapDay : ℕ → Bool

@@ -1,6 +1,6 @@
 // Days, as the numbers yyyymmdd.
 ghost use mathlib.Core.Path.{_≡_};
-ghost use Rattle.calendar.specs.Day.{leap, monthLength, isDay, fiveYearsBefore};
+ghost use Rattle.calendar.specs.Day.{leap, monthLength, isDayOf, isDay, fiveYearsBefore};
 
 fn is_leap(year: u32) -> bool
     ensures { λ r. ⌜ r ≡ leap year ⌝ }
@@ -23,19 +23,26 @@ fn month_length(year: u32, month: u32) -> u32
     31
 }
 
-// A real day of the years 1900 to 9999.
-pub fn is_day(ymd: u32) -> bool
-    ensures { λ r. ⌜ r ≡ isDay ymd ⌝ }
+// A real day of the years `first` to `last`.
+pub fn is_day_of(first: u32, last: u32, ymd: u32) -> bool
+    ensures { λ r. ⌜ r ≡ isDayOf first last ymd ⌝ }
 {
     let year = ymd / 10000;
     let month = ymd / 100 % 100;
     let day = ymd % 100;
-    (1900 <= year)
-        & (year <= 9999)
+    (first <= year)
+        & (year <= last)
         & (1 <= month)
         & (month <= 12)
         & (1 <= day)
         & (day <= month_length(year, month))
+}
+
+// Of the years 1900 to 9999, as cells and the submission moment have them.
+pub fn is_day(ymd: u32) -> bool
+    ensures { λ r. ⌜ r ≡ isDay ymd ⌝ }
+{
+    is_day_of(1900, 9999, ymd)
 }
 
 // The same month and day five years before, and 28 February for 29 February. Years are counted down to 0, so that every number has an answer.

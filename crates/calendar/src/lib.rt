@@ -10,6 +10,7 @@ pub use dates::is_date;
 pub use dates::parse_date;
 pub use days::five_years_before;
 pub use days::is_day;
+pub use days::is_day_of;
 pub use moments::Moment;
 pub use moments::When;
 pub use moments::is_before;

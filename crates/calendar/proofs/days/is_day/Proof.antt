@@ -5,7 +5,7 @@ use Rattle.calendar.proofs.days.is_day.Tie as tie
 
 returns : tie.Need-returns
 unfolding isDay
-returns c = rw (c .month-length .ensures)
+returns c = c .is-day-of .ensures
 
 pub is-day-spec : {M : Type 1} → statement M
 is-day-spec = tie.close (tie.spec (λ c κs. search needs) returns)
