@@ -46,6 +46,8 @@ use Rattle.ident.proofs.parties.is_mic.Kinds as is-mic-kinds
 use Rattle.ident.proofs.parties.is_mic.Reads as is-mic-reads
 use Rattle.ident.proofs.parties.is_concat.Kinds as is-concat-kinds
 use Rattle.ident.proofs.parties.is_concat.Reads as is-concat-reads
+use Rattle.ident.proofs.parties.is_nidn.Kinds as is-nidn-kinds
+use Rattle.ident.proofs.parties.is_nidn.Reads as is-nidn-reads
 use Rattle.ident.proofs.parties.is_malformed.Kinds as is-malformed-kinds
 use Rattle.ident.proofs.parties.is_malformed.Reads as is-malformed-reads
 
@@ -117,6 +119,9 @@ is-mic-determined κs a x y s t = same-both
 
 pub is-concat-determined : Determined is-concat-kinds.ps is-concat-kinds.r is-concat-reads.Post
 is-concat-determined κs a x y s t = same-both
+
+pub is-nidn-determined : Determined is-nidn-kinds.ps is-nidn-kinds.r is-nidn-reads.Post
+is-nidn-determined κs a x y s t = same-both
 
 pub is-malformed-determined : Determined is-malformed-kinds.ps is-malformed-kinds.r is-malformed-reads.Post
 is-malformed-determined κs a x y s t = same-both

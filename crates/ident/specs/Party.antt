@@ -163,6 +163,17 @@ isConcat (Mic at) = false
 isConcat (Algo at) = false
 isConcat Malformed = false
 
+abbrev pub isNidn : Identifier → Bool
+isNidn Intc = false
+isNidn Nore = false
+isNidn (Lei at) = false
+isNidn (Ccpt at) = false
+isNidn (Concat at) = false
+isNidn (Nidn at) = true
+isNidn (Mic at) = false
+isNidn (Algo at) = false
+isNidn Malformed = false
+
 abbrev pub isMalformed : Identifier → Bool
 isMalformed Intc = false
 isMalformed Nore = false

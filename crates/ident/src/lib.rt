@@ -25,6 +25,7 @@ pub use parties::is_concat;
 pub use parties::is_lei;
 pub use parties::is_malformed;
 pub use parties::is_mic;
+pub use parties::is_nidn;
 pub use parties::is_person;
 pub use parties::parse_party;
 pub use parties::part_of;

@@ -1,6 +1,6 @@
 // The party that a cell names: one parser over the kinds that the cell allows.
 ghost use mathlib.Core.Path.{_≡_};
-ghost use Rattle.ident.specs.Party.{allowed7, allowed12, allowed57, allowed59, named, allows, partOf, partRight, isPerson, personShaped, partyOf, isLei, isMic, isConcat, isMalformed};
+ghost use Rattle.ident.specs.Party.{allowed7, allowed12, allowed57, allowed59, named, allows, partOf, partRight, isPerson, personShaped, partyOf, isLei, isMic, isConcat, isNidn, isMalformed};
 use crate::codes::lei_shaped;
 use crate::codes::mic_shaped;
 use crate::persons::concat_shaped;
@@ -285,6 +285,22 @@ pub fn is_concat(identifier: Identifier) -> bool
         Identifier::Lei(_) => false,
         Identifier::Ccpt(_) => false,
         Identifier::Nidn(_) => false,
+        Identifier::Mic(_) => false,
+        Identifier::Algo(_) => false,
+        Identifier::Malformed => false,
+    }
+}
+
+pub fn is_nidn(identifier: Identifier) -> bool
+    ensures { λ r. ⌜ r ≡ isNidn identifier ⌝ }
+{
+    match identifier {
+        Identifier::Nidn(_) => true,
+        Identifier::Intc => false,
+        Identifier::Nore => false,
+        Identifier::Lei(_) => false,
+        Identifier::Ccpt(_) => false,
+        Identifier::Concat(_) => false,
         Identifier::Mic(_) => false,
         Identifier::Algo(_) => false,
         Identifier::Malformed => false,
