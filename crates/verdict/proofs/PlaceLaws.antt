@@ -1,12 +1,12 @@
 -- Groups of flags put in place, one behind the other.
 use mathlib.Core.Path.{_≡_, _∙_, sym, refl, ap}
 use mathlib.Core.Bool.{Bool, false}
-use mathlib.Core.List.{List, [], _++_}
+use mathlib.Core.List.{List, [], _++_, append-assoc}
 use Prim.Native.Nat.{ℕ, _+_, _≤_, _<_}
 use native.Mathlib.Numerals.{add-one}
 use native.Mathlib.Omega.{arith}
 use borrow.Author.Tests.{le-leb, lt-leb}
-use lib.ListN.{length, getD, take, set}
+use lib.ListN.{length, getD, take, drop, set}
 use lib.Seq.{take-all, take-length, length-paste, take-paste, paste, paste-zero, paste-suc}
 use Rattle.verdict.specs.Codes.{codeCount}
 use Rattle.verdict.specs.Findings.{put}
@@ -19,6 +19,12 @@ pub put-within : (flags : List Bool) (start : ℕ) (group : List Bool) → start
     → paste flags start group (length group) ≡ put flags start group
 unfolding put
 put-within flags start group h = rw (le-leb (start + length group) codeCount h, take-length group)
+
+-- what stands before the group and behind it stays
+pub put-amid : (flags : List Bool) (start : ℕ) (group : List Bool) {n : ℕ} → length group ≡ n → start + n ≤ codeCount
+    → put flags start group ≡ take start flags ++ (group ++ drop (start + n) flags)
+unfolding put
+put-amid flags start group {n} e h = rw (e, le-leb _ codeCount h) (append-assoc (take start flags) group (drop (start + n) flags))
 
 -- the first i flags of the group are in place
 pub record PlacedSoFar (flags : List Bool) (start : ℕ) (group placed : List Bool) (i : ℕ) : Type 0 where

@@ -4,14 +4,12 @@ use mathlib.Core.Bool.{Bool, true, false}
 use mathlib.Core.List.{List}
 use Prim.Native.Nat.{ℕ, _*_, _≤_, _<_}
 use native.Mathlib.Omega.{arith}
-use lib.ListN.{length, getD, take, drop}
-use lib.Seq.{take-append-seam, drop-append-seam}
-use Rattle.verdict.specs.Codes.{ruleCodes, formCodes, codes, ruleCount, codeCount}
+use lib.ListN.{length, getD}
+use Rattle.verdict.specs.Codes.{ruleCodes, formCodes, polishCodes, codes, ruleCount, codeCount}
 use Rattle.verdict.specs.Verdict.{bit, words, pick, codesFound, verdictOf}
-use Rattle.verdict.specs.Findings.{findingsAfter}
 use Rattle.verdict.specs.Counted.{bitsSet, bitAt, risingOver, times}
 use Rattle.verdict.proofs.BitLaws.{words-ones, words-digit}
-use Rattle.verdict.proofs.ListLaws.{length-pick, after-room}
+use Rattle.verdict.proofs.ListLaws.{length-pick}
 use Rattle.verdict.proofs.OrderLaws.{pick-rising, pick-once, pick-known}
 
 -- of any table of codes that rises, with a flag for each code
@@ -46,11 +44,11 @@ unfolding formCodes
 form-count = refl
 
 pub code-count : length codes ≡ codeCount
-unfolding codes ruleCodes formCodes
+unfolding codes ruleCodes formCodes polishCodes
 code-count = refl
 
 pub codes-rise : risingOver 0 codes ≡ true
-unfolding codes ruleCodes formCodes risingOver
+unfolding codes ruleCodes formCodes polishCodes risingOver
 codes-rise = refl
 
 module _ (flags : List Bool) (all : length flags ≡ codeCount) where
@@ -83,15 +81,3 @@ module _ (flags : List Bool) (all : length flags ≡ codeCount) where
   -- nothing else stands there
   pub found-known : (x : ℕ) → times x codes ≡ 0 → times x (codesFound flags) ≡ 0
   found-known x e = listed-known ours x e
-
--- a buffer with an entry for each code
-module _ (flags : List Bool) (entries : List ℕ) (room : codeCount ≤ length entries) where
-  -- the first n entries are the codes found ..
-  pub first-entries : take (verdictOf flags .count) (findingsAfter flags entries) ≡ codesFound flags
-  unfolding verdictOf
-  first-entries = rw (← after-room flags entries room) (take-append-seam (codesFound flags) (drop (length (codesFound flags)) entries))
-
-  -- .. and later entries stay
-  pub later-entries : drop (verdictOf flags .count) (findingsAfter flags entries) ≡ drop (verdictOf flags .count) entries
-  unfolding verdictOf
-  later-entries = rw (← after-room flags entries room) (drop-append-seam (codesFound flags) (drop (length (codesFound flags)) entries))

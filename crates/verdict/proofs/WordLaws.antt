@@ -6,19 +6,19 @@ use Prim.Native.Nat.{ℕ, zero, suc, _+_, _*_, _-_, _/_, _%_, _^_, _≤_, _<_}
 use native.Mathlib.Nat.{pow-suc, pow-le-pow-right}
 use native.Mathlib.Numerals.{add-one}
 use native.Mathlib.Omega.{arith}
-use borrow.Author.Tests.{eqb-true, eqb-false}
-use lib.Count.{trailingZeros, trailing-of-zero}
+use borrow.Author.Tests.{eqb-true, eqb-false, lt-ltb, le-ltb}
+use lib.Count.{ones, ones-step, trailingZeros, trailing-of-zero}
 use lib.Dec.{eqb, lit<}
 use lib.ListN.{length, getD, take, drop, set, length-set, take-append-drop, length-append, length-drop}
 use lib.Seq.{take-suc-set, drop-set-lt, append-snoc}
 use Rattle.text.proofs.Bools.{by-test}
 use Rattle.text.proofs.Lists.{rest-at}
-use Rattle.verdict.specs.Codes.{ruleCodes, formCodes, codes, codeCount}
-use Rattle.verdict.specs.Verdict.{bit, wordOf, words, keep, pick}
-use Rattle.verdict.specs.Findings.{over, findingsAfter}
-use Rattle.verdict.specs.Bits.{bitsOf, flagsIn, overFrom, Listed}
-use Rattle.verdict.proofs.ListLaws.{pick-short, after-room}
-use Rattle.verdict.proofs.Promises.{code-count}
+use Rattle.verdict.specs.Codes.{ruleCodes, formCodes, polishCodes, codes, codeCount}
+use Rattle.verdict.specs.Verdict.{bit, wordOf, words, keep, pick, codesFound, verdictOf}
+use Rattle.verdict.specs.Findings.{over}
+use Rattle.verdict.specs.Counted.{bitsSet}
+use Rattle.verdict.specs.Bits.{bitsOf, flagsIn, listedBy, overFrom, Listed}
+use Rattle.verdict.proofs.Promises.{code-count, bits-are-listed, ours}
 
 -- the lowest bit that is set, if it has a code: that code is the first, and without the bit the others are left
 pub record Lowest (k : ℕ) (table : List ℕ) (w : ℕ) : Type 0 where
@@ -54,6 +54,17 @@ none-lower zero (code ∷ table) w h = refl
 none-lower (suc k) [] w h = refl
 none-lower (suc k) (code ∷ table) w h =
     odd-or-even w (λ o. absurd (omega (arith, rw o at h))) (λ e. rw e (none-lower k table (w / 2) (omega (arith, rw e at h))))
+
+-- no more codes are picked than bits are set
+pick-few : (k : ℕ) (table : List ℕ) (w : ℕ) → length (pick table (bitsOf k w)) ≤ ones w
+unfolding bitsOf pick
+pick-few zero [] w = omega arith
+pick-few zero (code ∷ table) w = omega arith
+pick-few (suc k) [] w = omega arith
+pick-few (suc k) (code ∷ table) w =
+    odd-or-even w
+    (λ o. rw o (omega (arith, ones-step w, pick-few k table (w / 2))))
+    (λ e. rw e (omega (arith, ones-step w, pick-few k table (w / 2))))
 
 -- one bit as the code writes it
 pub one-bit : (t : ℕ) → t < 64 → 1 * 2 ^ t % 2 ^ 64 ≡ 2 ^ t
@@ -106,12 +117,12 @@ module _ {table : List ℕ} {word : ℕ} {before : List ℕ} {start : ℕ} {entr
   pub bits-end : left ≡ 0 → length table ≤ 64 → Listed (pick table (bitsOf 64 word)) start before n entries
   bits-end e h = bits-stop (rw (e, trailing-of-zero 64) h)
 
-  module _ (room : (length table ≤ 64) × (start + length table ≤ length before)) (h : trailingZeros 64 left < length table) where
+  module _ (room : (length table ≤ 64) × (start + ones word ≤ length before)) (h : trailingZeros 64 left < length table) where
     pub low : Lowest 64 table left
     low = lowest 64 table left h (room .0)
 
     pub bit-room : n < length entries
-    bit-room = omega (arith, so-far .count, ap length (low .first), pick-short table (bitsOf 64 word), so-far .length-is, room .1)
+    bit-room = omega (arith, so-far .count, ap length (low .first), pick-few 64 table word, so-far .length-is, room .1)
 
     pub bits-on : BitsSoFar table word before start (set entries n (getD table (trailingZeros 64 left) 0)) (n + 1) (left - 2 ^ trailingZeros 64 left)
     bits-on =
@@ -184,41 +195,53 @@ words-listed words h =
     ((rw (bits-length 64 v) at (pick-append (drop 64 codes) (bitsOf 64 v) (bitsOf 64 w ++ [])))
     ∙ rw (append-nil (bitsOf 64 w)))
 
-part-sizes : (length (take 64 codes) ≡ 64) × (length (take 64 (drop 64 codes)) ≡ 64) × (length (drop 64 (drop 64 codes)) ≡ codeCount - 128)
-unfolding codes ruleCodes formCodes
-part-sizes = (refl, refl, refl)
+listed-over : (words entries : List ℕ) → bitsSet words ≤ length entries → over (codesFound (flagsIn words)) entries ≡ listedBy words entries
+unfolding listedBy
+listed-over words entries h = rw (le-ltb (length entries) (bitsSet words) h)
+
+-- the bits that are set in three words
+abbrev onesIn : List ℕ → ℕ
+onesIn words = ones (getD words 0 0) + ones (getD words 1 0) + ones (getD words 2 0)
+
+bits-three : (words : List ℕ) → length words ≡ 3 → bitsSet words ≡ onesIn words
+bits-three words h = ap bitsSet (three words h) ∙ omega arith
+
+-- a buffer without room stays
+pub listed-not : (words entries : List ℕ) {count : ℕ} → length words ≡ 3 → count ≡ onesIn words → length entries < count → entries ≡ listedBy words entries
+unfolding listedBy
+listed-not words entries h counted short = rw (lt-ltb (length entries) (bitsSet words) (omega (arith, bits-three words h)))
 
 -- there is room for each word's codes behind those of the words before it
-module _ (words : List ℕ) {n : ℕ} {before one : List ℕ} (room : codeCount ≤ length before)
+module _ (words : List ℕ) {n count : ℕ} {before one : List ℕ} (counted : count ≡ onesIn words) (room : count ≤ length before)
     (first : Listed (pick (take 64 codes) (bitsOf 64 (getD words 0 0))) 0 before n one) where
-  few : length (pick (take 64 codes) (bitsOf 64 (getD words 0 0))) ≤ 64
-  few = omega (arith, pick-short (take 64 codes) (bitsOf 64 (getD words 0 0)), part-sizes .0)
+  few : length (pick (take 64 codes) (bitsOf 64 (getD words 0 0))) ≤ ones (getD words 0 0)
+  few = pick-few 64 (take 64 codes) (getD words 0 0)
 
-  pub second-room : n + 64 ≤ length one
+  pub second-room : n + ones (getD words 1 0) ≤ length one
   second-room = omega (arith, first .behind, few, listed-length first (omega (arith, few)))
 
   module _ {m : ℕ} {two : List ℕ} (second : Listed (pick (take 64 (drop 64 codes)) (bitsOf 64 (getD words 1 0))) n one m two) where
-    few-more : length (pick (take 64 (drop 64 codes)) (bitsOf 64 (getD words 1 0))) ≤ 64
-    few-more = omega (arith, pick-short (take 64 (drop 64 codes)) (bitsOf 64 (getD words 1 0)), part-sizes .1)
+    few-more : length (pick (take 64 (drop 64 codes)) (bitsOf 64 (getD words 1 0))) ≤ ones (getD words 1 0)
+    few-more = pick-few 64 (take 64 (drop 64 codes)) (getD words 1 0)
 
     both : Listed (pick (take 64 codes) (bitsOf 64 (getD words 0 0)) ++ pick (take 64 (drop 64 codes)) (bitsOf 64 (getD words 1 0))) 0 before m two
     both = listed-both first second (omega (arith, few, few-more))
 
-    size : length (pick (take 64 codes) (bitsOf 64 (getD words 0 0)) ++ pick (take 64 (drop 64 codes)) (bitsOf 64 (getD words 1 0))) ≤ 128
+    size : length (pick (take 64 codes) (bitsOf 64 (getD words 0 0)) ++ pick (take 64 (drop 64 codes)) (bitsOf 64 (getD words 1 0))) ≤ ones (getD words 0 0) + ones (getD words 1 0)
     size = rw length-append (omega (arith, few, few-more))
 
-    pub third-room : m + (codeCount - 128) ≤ length two
+    pub third-room : m + ones (getD words 2 0) ≤ length two
     third-room = omega (arith, both .behind, size, listed-length both (omega (arith, size)))
 
-    pub three-listed : {end : ℕ} {three : List ℕ} → Listed (pick (drop 64 (drop 64 codes)) (bitsOf 64 (getD words 2 0))) m two end three
-        → length words ≡ 3 → three ≡ findingsAfter (flagsIn words) before
+    pub three-listed : {end : ℕ} {listed : List ℕ} → Listed (pick (drop 64 (drop 64 codes)) (bitsOf 64 (getD words 2 0))) m two end listed
+        → length words ≡ 3 → listed ≡ listedBy words before
     three-listed third h =
-        let last : length (pick (drop 64 (drop 64 codes)) (bitsOf 64 (getD words 2 0))) ≤ codeCount - 128 = omega (arith, pick-short (drop 64 (drop 64 codes)) (bitsOf 64 (getD words 2 0)), part-sizes .2) in
+        let last : length (pick (drop 64 (drop 64 codes)) (bitsOf 64 (getD words 2 0))) ≤ ones (getD words 2 0) = pick-few 64 (drop 64 (drop 64 codes)) (getD words 2 0) in
         listed-all (listed-both both third (omega (arith, size, last)))
         ∙ ap (λ (l : List ℕ). over l before)
         (append-assoc (pick (take 64 codes) (bitsOf 64 (getD words 0 0))) (pick (take 64 (drop 64 codes)) (bitsOf 64 (getD words 1 0))) (pick (drop 64 (drop 64 codes)) (bitsOf 64 (getD words 2 0)))
         ∙ sym (words-listed words h))
-        ∙ after-room (flagsIn words) before room
+        ∙ listed-over words before (omega (arith, bits-three words h))
 
 length-take-most : (n : ℕ) (l : List Bool) → length (take n l) ≤ n
 length-take-most zero l = omega arith
@@ -264,7 +287,10 @@ words-flags (suc n) table flags h =
     ∙ ap (λ (l : List ℕ). pick (take 64 table) (take 64 flags) ++ l) (words-flags n (drop 64 table) (drop 64 flags) (rw length-drop (omega arith)))
     ∙ pick-parts 64 table flags
 
--- the words of a verdict leave the findings that its flags do
-pub words-find : (flags : List Bool) (entries : List ℕ) → findingsAfter (flagsIn (words 3 flags)) entries ≡ findingsAfter flags entries
-unfolding findingsAfter
-words-find flags entries = rw (words-flags 3 codes flags (omega (arith, code-count)))
+-- the words of a verdict list the codes that its flags find
+pub verdict-lists : (flags : List Bool) (entries : List ℕ) → length flags ≡ codeCount → length (codesFound flags) ≤ length entries
+    → listedBy (verdictOf flags .words) entries ≡ over (codesFound flags) entries
+unfolding verdictOf
+verdict-lists flags entries all room =
+    sym (listed-over (words 3 flags) entries (omega (arith, bits-are-listed (ours flags all) 3 (omega arith))))
+    ∙ rw (words-flags 3 codes flags (omega (arith, code-count)))

@@ -1,5 +1,6 @@
 -- The codes of findings, in rising order: which code each flag stands for.
 use Prim.Native.Nat.{ℕ}
+use mathlib.Core.Bool.{Bool, cond}
 use mathlib.Core.List.{List, [], _∷_, _++_}
 use Rattle.text.specs.Number.{countFrom}
 
@@ -17,12 +18,23 @@ ruleCodes =
 unfoldable pub formCodes : List ℕ
 formCodes = countFrom 1001 65
 
-unfoldable pub codes : List ℕ
-codes = ruleCodes ++ formCodes
+-- the codes of the rules for Polish identifiers
+unfoldable pub polishCodes : List ℕ
+polishCodes = 3307 ∷ 3308 ∷ 3309 ∷ []
 
--- how many codes there are, of the rules and in all
+unfoldable pub codes : List ℕ
+codes = ruleCodes ++ (formCodes ++ polishCodes)
+
+-- how many codes there are: of the rules, with the forms, and in all
 abbrev pub ruleCount : ℕ
 ruleCount = 73
 
+abbrev pub baseCount : ℕ
+baseCount = 138
+
 abbrev pub codeCount : ℕ
-codeCount = 138
+codeCount = 141
+
+-- how many entries a findings buffer needs: one for each code that may be given, the Polish ones where the call asks for them
+abbrev pub entriesNeeded : Bool → ℕ
+entriesNeeded polish = cond polish codeCount baseCount

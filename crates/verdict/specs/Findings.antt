@@ -2,18 +2,13 @@
 use Prim.Native.Nat.{ℕ, _+_}
 use mathlib.Core.Bool.{Bool, cond}
 use mathlib.Core.List.{List, _++_}
-use lib.Dec.{leb, ltb}
+use lib.Dec.{leb}
 use lib.ListN.{length, take, drop}
 use Rattle.verdict.specs.Codes.{codeCount}
-use Rattle.verdict.specs.Verdict.{codesFound}
 
 -- what is listed stands in the first entries; later entries stay
 abbrev pub over : List ℕ → List ℕ → List ℕ
 over listed entries = listed ++ drop (length listed) entries
-
--- the codes found in the first entries; a buffer with fewer entries than there are codes stays as it is
-unfoldable pub findingsAfter : List Bool → List ℕ → List ℕ
-findingsAfter flags entries = cond (ltb (length entries) codeCount) entries (over (codesFound flags) entries)
 
 -- the flags with a group in place of those from `start` on; a group that goes past the last code changes none
 unfoldable pub put : List Bool → ℕ → List Bool → List Bool

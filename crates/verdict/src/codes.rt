@@ -1,11 +1,13 @@
 // The codes of the paper.
 
-// 73 rules and 65 forms.
+// 73 rules, then 65 forms, then 3 rules for Polish identifiers.
 pub const RULE_COUNT: usize = 73;
 
-pub const CODE_COUNT: usize = 138;
+pub const BASE_COUNT: usize = 138;
 
-// In rising order: the rules', then 1000 + f for each cell f.
+pub const CODE_COUNT: usize = 141;
+
+// In rising order: the rules', 1000 + f for each cell f, those for Polish identifiers.
 pub const CODES: [u16; CODE_COUNT] = [
     23,
     24,
@@ -145,4 +147,7 @@ pub const CODES: [u16; CODE_COUNT] = [
     1063,
     1064,
     1065,
+    3307,
+    3308,
+    3309,
 ];

@@ -5,13 +5,15 @@ ghost use mathlib.Core.Path.{_≡_};
 ghost use Prim.Native.Nat.{_+_, _≤_};
 ghost use lib.Count.{ones};
 ghost use lib.ListN.{length};
+ghost use Rattle.verdict.specs.Codes.{entriesNeeded};
 ghost use Rattle.verdict.specs.Verdict.{wordOf, pick, verdictOf, refusedBy};
-ghost use Rattle.verdict.specs.Findings.{over, findingsAfter, put};
-ghost use Rattle.verdict.specs.Bits.{bitsOf, flagsIn, Listed};
+ghost use Rattle.verdict.specs.Findings.{put};
+ghost use Rattle.verdict.specs.Bits.{bitsOf, listedBy, Listed};
 
 mod codes;
 
 use crate::codes::CODES;
+pub use codes::BASE_COUNT;
 pub use codes::CODE_COUNT;
 pub use codes::RULE_COUNT;
 
@@ -60,6 +62,16 @@ pub fn judged(found: &[bool; CODE_COUNT]) -> Verdict
     }
 }
 
+// How many entries a findings buffer needs, with the codes for Polish identifiers or without.
+pub fn entries_needed(polish: bool) -> usize
+    ensures { λ r. ⌜ r ≡ entriesNeeded polish ⌝ }
+{
+    if polish {
+        return CODE_COUNT;
+    }
+    BASE_COUNT
+}
+
 pub fn refused(no: u16) -> Verdict
     ensures { λ r. ⌜ r ≡ refusedBy no ⌝ }
 {
@@ -70,37 +82,10 @@ pub fn refused(no: u16) -> Verdict
     }
 }
 
-// The codes of any table whose flags are set, into the first entries.
-fn list_by(table: &[u16], found: &[bool], findings: &mut [u16])
-    requires { ⌜ (length (now table) ≡ length (now found)) × (length (now found) ≤ length (now findings)) ⌝ }
-    ensures { λ r. ⌜ now (findings .exit) ≡ over (pick (now (table .entry)) (now (found .entry))) (now (findings .entry)) ⌝ }
-{
-    let mut n = 0;
-    let mut i = 0;
-    while i < found.len() {
-        if found[i] {
-            findings[n] = table[i];
-            n += 1;
-        }
-        i += 1;
-    }
-}
-
-// The codes found, into the first entries; nothing is written where there are fewer entries than codes.
-pub fn list(found: &[bool; CODE_COUNT], findings: &mut [u16])
-    ensures { λ r. ⌜ now (findings .exit) ≡ findingsAfter (now (found .entry)) (now (findings .entry)) ⌝ }
-{
-    if findings.len() < CODE_COUNT {
-        return;
-    }
-    let table = CODES;
-    list_by(&table, found, findings);
-}
-
 // The codes of a table whose bits are set in a word, the lowest bit first, into the entries from `from` on; behind the last of them.
 // Bits without a code are passed over.
 fn list_bits(table: &[u16], word: u64, findings: &mut [u16], from: usize) -> usize
-    requires { ⌜ (length (now table) ≤ 64) × (from + length (now table) ≤ length (now findings)) ⌝ }
+    requires { ⌜ (length (now table) ≤ 64) × (from + ones word ≤ length (now findings)) ⌝ }
     ensures { λ r. ⌜ Listed (pick (now (table .entry)) (bitsOf 64 word)) from (now (findings .entry)) r (now (findings .exit)) ⌝ }
 {
     let mut n = from;
@@ -117,12 +102,12 @@ fn list_bits(table: &[u16], word: u64, findings: &mut [u16], from: usize) -> usi
     n
 }
 
-// The codes whose bits are set in the words of a verdict, into the first entries; nothing is written where there are fewer entries than codes.
+// The codes whose bits are set in the words of a verdict, into the first entries; nothing is written where there are fewer entries than bits.
 // A line has few findings, so that this is shorter than to ask each flag.
 pub fn list_by_words(words: [u64; 3], findings: &mut [u16])
-    ensures { λ r. ⌜ now (findings .exit) ≡ findingsAfter (flagsIn words) (now (findings .entry)) ⌝ }
+    ensures { λ r. ⌜ now (findings .exit) ≡ listedBy words (now (findings .entry)) ⌝ }
 {
-    if findings.len() < CODE_COUNT {
+    if findings.len() < ones_of(words[0], words[1], words[2]) as usize {
         return;
     }
     let codes = CODES;
