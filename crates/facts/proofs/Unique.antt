@@ -12,12 +12,17 @@ use Rattle.facts.proofs.lines.is_absent.Kinds as is-absent-kinds
 use Rattle.facts.proofs.lines.is_absent.Reads as is-absent-reads
 use Rattle.facts.proofs.lines.line_facts.Kinds as line-facts-kinds
 use Rattle.facts.proofs.lines.line_facts.Reads as line-facts-reads
+use Rattle.facts.proofs.polish_cells.polish_facts.Kinds as polish-facts-kinds
+use Rattle.facts.proofs.polish_cells.polish_facts.Reads as polish-facts-reads
 
 pub trade-day-determined : Determined trade-day-kinds.ps trade-day-kinds.r trade-day-reads.Post
 trade-day-determined κs a x y s t = same-both
 
 pub line-facts-determined : Determined line-facts-kinds.ps line-facts-kinds.r line-facts-reads.Post
 line-facts-determined κs a x y s t = same-both
+
+pub polish-facts-determined : Determined polish-facts-kinds.ps polish-facts-kinds.r polish-facts-reads.Post
+polish-facts-determined κs a x y s t = same-both
 
 pub is-absent-determined : Determined is-absent-kinds.ps is-absent-kinds.r is-absent-reads.Post
 is-absent-determined κs a x y s t = same-both

@@ -1,5 +1,6 @@
 -- What a call gets. The findings buffer stays outside.
 use Prim.Native.Nat.{ℕ}
+use mathlib.Core.Bool.{Bool}
 use mathlib.Core.List.{List}
 
 pub record Call : Type 0 where
@@ -13,7 +14,9 @@ pub record Call : Type 0 where
   -- the submission moment: day S, microsecond of the day
   pub day : ℕ
   pub micro : ℕ
+  -- Polish identifiers are judged
+  pub polish : Bool
 
-abbrev pub call : List ℕ → List ℕ → List ℕ → List ℕ → List ℕ → List ℕ → List ℕ → ℕ → ℕ → Call
-call line lei cty ccy ven ins register day micro =
-    record { line = line; lei = lei; cty = cty; ccy = ccy; ven = ven; ins = ins; register = register; day = day; micro = micro }
+abbrev pub call : List ℕ → List ℕ → List ℕ → List ℕ → List ℕ → List ℕ → List ℕ → ℕ → ℕ → Bool → Call
+call line lei cty ccy ven ins register day micro polish =
+    record { line = line; lei = lei; cty = cty; ccy = ccy; ven = ven; ins = ins; register = register; day = day; micro = micro; polish = polish }

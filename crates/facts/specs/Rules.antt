@@ -1,4 +1,5 @@
--- The 73 rules, one entry each in rising order: the code, for which lines it is judged, the cells that it reads, and when it is violated.
+-- The rules, one entry each in rising order: the code, for which lines it is judged, the cells that it reads, and when it is violated.
+-- There are 73, and 3 for Polish identifiers, whose codes stand behind those of the forms.
 use Prim.Native.Nat.{ℕ}
 use mathlib.Core.Bool.{Bool, false, not, _&&_, _||_}
 use mathlib.Core.List.{List, [], _∷_, _++_, map}
@@ -9,14 +10,15 @@ use Rattle.cells.specs.Cells.{cell}
 use Rattle.forms.specs.declared.findings.Status.the-variants.{New, Cancellation}
 use Rattle.forms.specs.Forms.{statusWord}
 use Rattle.forms.specs.Findings.{formFindings}
-use Rattle.ident.specs.Party.{allowed7, allowed12}
+use Rattle.ident.specs.Party.{allowed7, allowed12, allowed57, allowed59}
+use Rattle.ident.specs.declared.parties.Allowed.{Allowed}
 use Rattle.lists.specs.Lookups.{instrumentRows, someViolates}
 use Rattle.register.specs.Pair.{pairBytes}
 use Rattle.register.specs.Rows.{standing}
 use Rattle.register.specs.declared.rows.Standing.{Standing}
 use Rattle.cfi.specs.Rules.{violated}
 use Rattle.facts.specs.Call.{Call}
-use Rattle.facts.specs.Words.{present, says, off, momentOf, isLive, isAbsent, isCancelled, leiGoodUnlapsed, leiGood, leiWrong, countryWrong, kind1, kind2, kind3, partyLeiWrong, partyCountryWrong, partyMicWrong, partyShapeWrong, birthWrong, isLate, isPast, isEntity, currencyWrong, quantityCurrencyWrong, secondCurrency, isinWrong, notBefore, tooOld, heldAtAll, heldWord, heldQuantity, heldPrice, heldSwap}
+use Rattle.facts.specs.Words.{present, says, off, momentOf, isLive, isAbsent, isCancelled, leiGoodUnlapsed, leiGood, leiWrong, countryWrong, kind1, kind2, kind3, partyLeiWrong, partyCountryWrong, partyMicWrong, partyShapeWrong, birthWrong, isLate, isPast, isEntity, currencyWrong, quantityCurrencyWrong, secondCurrency, isinWrong, notBefore, tooOld, heldAtAll, heldWord, heldQuantity, heldPrice, heldSwap, polishFormWrong, polishCheckWrong, polishBirthWrong}
 
 -- for which lines a rule is judged
 pub data When : Type 0 where
@@ -224,6 +226,50 @@ rules6 =
 abbrev pub rules : List Rule
 rules = rules1 ++ (rules2 ++ (rules3 ++ (rules4 ++ (rules5 ++ rules6))))
 
+-- 3307 to 3309 judge each cell by itself: one with a form finding gives none of them, and one in its date cell rules out 3309
+abbrev pub alone : List ℕ → ℕ → (List ℕ → Bool) → Bool
+alone line f wrong = good line f && wrong (cell line f)
+
+abbrev pub withDate : List ℕ → ℕ → ℕ → (List ℕ → List ℕ → Bool) → Bool
+withDate line f d wrong = good line f && good line d && wrong (cell line f) (cell line d)
+
+-- some cell is wrong: of the parties with a date; of 57 and 59, which have none; of all six
+abbrev pub someParty : (Allowed → List ℕ → Bool) → List ℕ → Bool
+someParty wrong line = alone line 7 (wrong allowed7) || alone line 12 (wrong allowed12) || alone line 16 (wrong allowed7) || alone line 21 (wrong allowed12)
+
+abbrev pub someTrader : (Allowed → List ℕ → Bool) → List ℕ → Bool
+someTrader wrong line = alone line 57 (wrong allowed57) || alone line 59 (wrong allowed59)
+
+abbrev pub someCell : (Allowed → List ℕ → Bool) → List ℕ → Bool
+someCell wrong line = someParty wrong line || someTrader wrong line
+
+-- some party's birth day is
+abbrev pub someBirth : (Allowed → List ℕ → List ℕ → Bool) → List ℕ → Bool
+someBirth wrong line =
+    withDate line 7 11 (wrong allowed7)
+    || withDate line 12 15 (wrong allowed12)
+    || withDate line 16 20 (wrong allowed7)
+    || withDate line 21 24 (wrong allowed12)
+
+-- the rules for Polish identifiers, where the call asks for them
+abbrev pub polishRules : List Rule
+polishRules =
+    rule 3307 OnNew [] (λ c. c .polish && someCell polishFormWrong (c .line))
+    ∷ rule 3308 OnNew [] (λ c. c .polish && someCell polishCheckWrong (c .line))
+    ∷ rule 3309 OnNew [] (λ c. c .polish && someBirth polishBirthWrong (c .line))
+    ∷ []
+
+abbrev pub allRules : List Rule
+allRules = rules ++ polishRules
+
 -- the 73 flags of a call, in the order of the codes
 unfoldable pub flags : Call → List Bool
 flags c = map (given c) rules
+
+-- the 3 flags of the rules for Polish identifiers
+unfoldable pub polishFlags : Call → List Bool
+polishFlags c = map (given c) polishRules
+
+-- the 141 flags of a call: 73 rules, 65 forms, 3 rules for Polish identifiers
+unfoldable pub allFlags : Call → List Bool
+allFlags c = flags c ++ (formFindings (c .line) ++ polishFlags c)

@@ -7,6 +7,7 @@ mod entities;
 mod lines;
 mod money;
 mod parties;
+mod polish_cells;
 mod times;
 mod trades;
 
@@ -27,6 +28,7 @@ pub use money::MoneyFacts;
 pub use money::second_currency;
 pub use parties::PartiesFacts;
 pub use parties::PartyFacts;
+pub use polish_cells::polish_facts;
 pub use times::TimeFacts;
 pub use times::trade_day;
 pub use trades::TradeFacts;
