@@ -8,7 +8,8 @@ use Rattle.cells.specs.Cells.{cell}
 use Rattle.forms.proofs.StatusLaws.{not-both}
 use Rattle.facts.specs.Call.{Call}
 use Rattle.facts.specs.Words.{isAbsent, isCancelled, leiGood}
-use Rattle.facts.specs.Rules.{When, OnNew, OnCxl, OnBoth, Rule, isNew, isCxl, judged, good, andGood, given, at, standingOf, rules, flags}
+use Rattle.facts.specs.Facts.{polishFacts}
+use Rattle.facts.specs.Rules.{When, OnNew, OnCxl, OnBoth, Rule, isNew, isCxl, judged, good, andGood, given, at, standingOf, rules, flags, polishRules, polishFlags}
 use Rattle.verdict.specs.Codes.{ruleCount, codeCount}
 
 -- whether a rule is judged for a line that is NEW or not, and CXL or not
@@ -44,3 +45,14 @@ pub not-new : (c : Call) → isNew (c .line) ≡ false
     ≡ flags c
 unfolding flags
 not-new c n = sym (with-status c n refl rules)
+
+-- nor are the rules for Polish identifiers
+pub not-polish : (c : Call) → isNew (c .line) ≡ false → false ∷ false ∷ false ∷ [] ≡ polishFlags c
+unfolding polishFlags
+not-polish c n = sym (with-status c n refl polishRules)
+
+-- of a line that is NEW these are its facts
+pub polish-flags : (c : Call) → isNew (c .line) ≡ true
+    → polishFacts (c .polish) (c .line) .form ∷ polishFacts (c .polish) (c .line) .check ∷ polishFacts (c .polish) (c .line) .birth ∷ [] ≡ polishFlags c
+unfolding polishFlags polishFacts
+polish-flags c n = when-new c n polishRules

@@ -1,16 +1,16 @@
-// The 138 flags of a line: 73 rules, then 65 forms.
+// The 141 flags of a line: 73 rules, 65 forms, 3 rules for Polish identifiers.
 ghost use mathlib.Core.Path.{_≡_};
-ghost use mathlib.Core.Bool.{true, false};
-ghost use mathlib.Core.List.{List, _++_};
+ghost use mathlib.Core.Bool.{Bool, true, false};
+ghost use mathlib.Core.List.{List};
 ghost use Prim.Native.Nat.{ℕ};
 ghost use Rattle.cells.specs.Split.{Tabled};
 ghost use Rattle.cells.specs.Cells.{cell};
 ghost use Rattle.forms.specs.Findings.{formFindings};
 ghost use Rattle.forms.specs.Read.{readOf};
 ghost use Rattle.facts.specs.Call.{Call, call};
-ghost use Rattle.facts.specs.Rules.{isNew, pairStands, flags};
+ghost use Rattle.facts.specs.Rules.{isNew, pairStands, allFlags};
 ghost use Rattle.facts.specs.Asked.{leiFit};
-ghost use Rattle.facts.specs.Facts.{askedIn, factsOf};
+ghost use Rattle.facts.specs.Facts.{askedIn, factsOf, polishFacts};
 use crate::early::deciders_and_seller;
 use crate::early::pair_and_buyer;
 use crate::early::seller_and_time;
@@ -21,7 +21,9 @@ use facts::Asked;
 use facts::Facts;
 use facts::LeiFit;
 use forms::Read;
+use polish::Polish;
 use register::Standing;
+use verdict::BASE_COUNT;
 use verdict::CODE_COUNT;
 use verdict::RULE_COUNT;
 
@@ -34,7 +36,7 @@ pub fn unless_new<'a, 't>(
     standing: Standing,
 ) -> [bool; CODE_COUNT]
     requires { ⌜ Tabled (now line) (now starts) (now ends) × (isNew (now line) ≡ false) ⌝ }
-    ensures { λ r. ⌜ ((lei cty ccy ven ins register : List ℕ) (day micro : ℕ) → submitting ≡ leiFit lei (cell (now (line .entry)) 6) day → standing ≡ pairStands register (now (line .entry)) → r ≡ flags (call (now (line .entry)) lei cty ccy ven ins register day micro) ++ formFindings (now (line .entry))) ⌝ }
+    ensures { λ r. ⌜ ((lei cty ccy ven ins register : List ℕ) (day micro : ℕ) (polish : Bool) → submitting ≡ leiFit lei (cell (now (line .entry)) 6) day → standing ≡ pairStands register (now (line .entry)) → r ≡ allFlags (call (now (line .entry)) lei cty ccy ven ins register day micro polish)) ⌝ }
 {
     let forms = forms::other_findings(line, starts, ends);
     let ok = facts::good_cells(&forms);
@@ -46,9 +48,9 @@ pub fn unless_new<'a, 't>(
     verdict::place(found, RULE_COUNT, &forms)
 }
 
-// The rules of a line that is NEW, in groups of 12 or 13, then its forms.
-fn by_facts(forms: &[bool; 65], f: Facts) -> [bool; CODE_COUNT]
-    ensures { λ r. ⌜ ((c : Call) → isNew (c .line) ≡ true → f ≡ factsOf c → now (forms .entry) ≡ formFindings (c .line) → r ≡ flags c ++ formFindings (c .line)) ⌝ }
+// The rules of a line that is NEW, in groups of 12 or 13, then its forms, then the rules for Polish identifiers.
+fn by_facts(forms: &[bool; 65], f: Facts, polish: Polish) -> [bool; CODE_COUNT]
+    ensures { λ r. ⌜ ((c : Call) → isNew (c .line) ≡ true → f ≡ factsOf c → now (forms .entry) ≡ formFindings (c .line) → polish ≡ polishFacts (c .polish) (c .line) → r ≡ allFlags c) ⌝ }
 {
     let found = pair_and_buyer([false; CODE_COUNT], f);
     let found = deciders_and_seller(found, f);
@@ -56,10 +58,16 @@ fn by_facts(forms: &[bool; 65], f: Facts) -> [bool; CODE_COUNT]
     let found = price_and_venue(found, f);
     let found = currencies_and_cfi(found, f);
     let found = cfi_and_dates(found, f);
-    verdict::place(found, RULE_COUNT, forms)
+    let found = verdict::place(found, RULE_COUNT, forms);
+    verdict::place(
+        found,
+        BASE_COUNT,
+        &[polish.form, polish.check, polish.birth],
+    )
 }
 
-// A line that is NEW: its split, what was read of it, what the lists say of it, how its pair stands in the register, and the submission moment.
+// A line that is NEW: its split, what was read of it, what the lists say of it, how its pair stands in the register, the submission moment, and
+// whether Polish identifiers are judged.
 pub fn when_new<'a, 't>(
     line: &'a [u8],
     starts: &'t [usize; 65],
@@ -69,9 +77,10 @@ pub fn when_new<'a, 't>(
     standing: Standing,
     day: u32,
     micro: u64,
+    polish: bool,
 ) -> [bool; CODE_COUNT]
     requires { ⌜ Tabled (now line) (now starts) (now ends) × (read ≡ readOf (now line)) × (isNew (now line) ≡ true) ⌝ }
-    ensures { λ r. ⌜ ((lei cty ccy ven ins register : List ℕ) → asked ≡ askedIn (call (now (line .entry)) lei cty ccy ven ins register day micro) → standing ≡ pairStands register (now (line .entry)) → r ≡ flags (call (now (line .entry)) lei cty ccy ven ins register day micro) ++ formFindings (now (line .entry))) ⌝ }
+    ensures { λ r. ⌜ ((lei cty ccy ven ins register : List ℕ) → asked ≡ askedIn (call (now (line .entry)) lei cty ccy ven ins register day micro polish) → standing ≡ pairStands register (now (line .entry)) → r ≡ allFlags (call (now (line .entry)) lei cty ccy ven ins register day micro polish)) ⌝ }
 {
     let forms = forms::new_findings(line, starts, ends, read);
     let f = facts::line_facts(
@@ -85,5 +94,7 @@ pub fn when_new<'a, 't>(
         day,
         micro,
     );
-    by_facts(&forms, f)
+    let ok = f.ok;
+    let identifiers = facts::polish_facts(line, starts, ends, read, ok, polish);
+    by_facts(&forms, f, identifiers)
 }

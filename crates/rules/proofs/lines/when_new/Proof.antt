@@ -1,9 +1,11 @@
 use Rattle.rules.proofs.lines.when_new.Statement.{statement}
 use Rattle.rules.proofs.lines.when_new.Tie as tie
-use mathlib.Core.Path.{_∙_}
+use mathlib.Core.Path.{_∙_, ap}
 use Rattle.forms.proofs.FindingLaws.{new-status}
 use Rattle.facts.specs.Call.{call}
+use Rattle.facts.specs.Rules.{goodCells}
 use Rattle.facts.specs.Facts.{factsFrom}
+use Rattle.facts.specs.declared.lines.Facts.{Facts}
 use Rattle.facts.proofs.FromAsked.{facts-from}
 use borrow.Author.Needs.{needs}
 
@@ -13,14 +15,19 @@ new-findings-requires c κs = ((c .before .pre) .0, (c .before .pre) .1, new-sta
 line-facts-requires : tie.Need-line-facts-requires
 line-facts-requires c κs = ((c .before .before .before .pre) .0, (c .before .new-findings) .ensures, (c .before .before .before .pre) .1)
 
+-- the good cells of the facts
+polish-facts-requires : tie.Need-polish-facts-requires
+unfolding factsFrom goodCells
+polish-facts-requires c κs = ((c .before .before .before .before .before .pre) .0, (c .before .before .before .before .before .pre) .1, ap (λ (f : Facts). f .ok) ((c .before .line-facts) .ensures))
+
 returns : tie.Need-returns
 returns c =
     λ lei cty ccy ven ins register asked stands.
-    let a = (c .before .before .before .before .before .before .args) in
+    let a = (c .before .before .before .before .before .before .before .before .args) in
     let l = a .line .now in
-    let k = call l lei cty ccy ven ins register (a .day) (a .micro) in
-    let facts = (c .before .before .line-facts) .ensures ∙ (λ j. factsFrom l ((c .before .before .before .before .before .before .pre) .1 j) (asked j) (stands j) (a .day) (a .micro)) ∙ facts-from k in
-    (c .by-facts) .ensures k ((c .before .before .before .before .before .before .pre) .2) facts ((c .before .before .before .before .new-findings) .ensures)
+    let k = call l lei cty ccy ven ins register (a .day) (a .micro) (a .polish) in
+    let facts = (c .before .before .before .before .line-facts) .ensures ∙ (λ j. factsFrom l ((c .before .before .before .before .before .before .before .before .pre) .1 j) (asked j) (stands j) (a .day) (a .micro)) ∙ facts-from k in
+    (c .by-facts) .ensures k ((c .before .before .before .before .before .before .before .before .pre) .2) facts ((c .before .before .before .before .before .before .new-findings) .ensures) ((c .before .before .polish-facts) .ensures)
 
 pub when-new-spec : {M : Type 1} → statement M
 when-new-spec =
@@ -28,5 +35,6 @@ when-new-spec =
     (tie.spec
     new-findings-requires
     line-facts-requires
+    polish-facts-requires
     (λ c κs. search needs)
     returns)
