@@ -3,10 +3,11 @@ use mathlib.Core.Path.{_≡_}
 use contract.Lifetimes.{Lfts}
 use Rattle.text.proofs.Determined.{same-both}
 use Rattle.verdict.specs.declared.Verdict.{Verdict}
-use Rattle.judge.proofs.Contract.{Arguments, Returned, registerAfter, findingsAfter}
+use Rattle.judge.proofs.Contract.{registerAfter, findingsAfter}
 use Rattle.capi.proofs.boanhetri_judge.Reads as reads
+use Rattle.capi.proofs.SameContract.{HostArguments, HostReturned, left}
 
 pub boanhetri-judge-determined :
-    (κs : Lfts 8) (a : Arguments κs) (x y : Verdict) (s t : Returned κs) → reads.Post κs a x s → reads.Post κs a y t
-    → (x ≡ y) × (registerAfter κs s ≡ registerAfter κs t) × (findingsAfter κs s ≡ findingsAfter κs t)
+    (κs : Lfts 8) (a : HostArguments κs) (x y : Verdict) (s t : HostReturned κs) → reads.Post κs a x s → reads.Post κs a y t
+    → (x ≡ y) × (registerAfter κs (left κs s) ≡ registerAfter κs (left κs t)) × (findingsAfter κs (left κs s) ≡ findingsAfter κs (left κs t))
 boanhetri-judge-determined κs a x y s t p q = (same-both (p .says) (q .says), same-both (p .keeps) (q .keeps), same-both (p .lists) (q .lists))

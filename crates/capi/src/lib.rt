@@ -1,9 +1,12 @@
 // One line judged, for a host that links C: what include/boanhetri.h declares.
+ghost use mathlib.Core.Bool.{not};
+ghost use lib.Dec.{eqb};
 ghost use lib.ListN.{length};
 ghost use Rattle.facts.specs.Call.{call};
 ghost use Rattle.judge.specs.Outcome.{outcome, Judged};
 use verdict::Verdict;
 
+// Polish identifiers are judged where `polish` is any number but 0.
 #[no_mangle]
 pub extern "C" fn boanhetri_judge(
     line: &[u8],
@@ -15,9 +18,10 @@ pub extern "C" fn boanhetri_judge(
     register: &mut [u8],
     day: u32,
     micro: u64,
+    polish: u32,
     findings: &mut [u16],
 ) -> Verdict
-    ensures { λ r. ⌜ Judged (outcome (call (now (line .entry)) (now (lei .entry)) (now (cty .entry)) (now (ccy .entry)) (now (ven .entry)) (now (ins .entry)) (now (register .entry)) day micro) (length (now (findings .entry)))) (now (findings .entry)) r (now (findings .exit)) (now (register .exit)) ⌝ }
+    ensures { λ r. ⌜ Judged (outcome (call (now (line .entry)) (now (lei .entry)) (now (cty .entry)) (now (ccy .entry)) (now (ven .entry)) (now (ins .entry)) (now (register .entry)) day micro (not (eqb polish 0))) (length (now (findings .entry)))) (now (findings .entry)) r (now (findings .exit)) (now (register .exit)) ⌝ }
 {
     judge::judge(
         line,
@@ -29,6 +33,7 @@ pub extern "C" fn boanhetri_judge(
         register,
         day,
         micro,
+        polish != 0,
         findings,
     )
 }

@@ -14,7 +14,7 @@ use Rattle.judge.proofs.judge.Kinds as kinds
 use Rattle.judge.proofs.judge.Reads as reads
 
 module _ (κs : Lfts 8) where
-  -- the ten arguments, and the parameters when the call returns
+  -- the eleven arguments, and the parameters when the call returns
   abbrev pub Arguments : Type 0
   Arguments = Dens κs kinds.ps
 
@@ -34,16 +34,17 @@ module _ (κs : Lfts 8) where
           register = a .1 .1 .1 .1 .1 .1 .0 .now;
           day = a .1 .1 .1 .1 .1 .1 .1 .0;
           micro = a .1 .1 .1 .1 .1 .1 .1 .1 .0;
+          polish = a .1 .1 .1 .1 .1 .1 .1 .1 .1 .0;
         }
 
     abbrev pub findingsBefore : List ℕ
-    findingsBefore = a .1 .1 .1 .1 .1 .1 .1 .1 .1 .0 .now
+    findingsBefore = a .1 .1 .1 .1 .1 .1 .1 .1 .1 .1 .0 .now
 
   abbrev pub registerAfter : Returned → List ℕ
   registerAfter s = s .1 .1 .1 .1 .1 .1 .0 .now
 
   abbrev pub findingsAfter : Returned → List ℕ
-  findingsAfter s = s .1 .1 .1 .1 .1 .1 .1 .1 .1 .0 .now
+  findingsAfter s = s .1 .1 .1 .1 .1 .1 .1 .1 .1 .1 .0 .now
 
   -- the outcome of the call, and nothing but it
   abbrev pub Promised : Arguments → Verdict → Returned → Type 0

@@ -11,17 +11,16 @@ use Rattle.cells.specs.Cells.{barsOf}
 use Rattle.register.specs.Frame.{full}
 use Rattle.facts.specs.Call.{Call}
 use Rattle.facts.specs.Words.{isAbsent}
-use Rattle.facts.specs.Rules.{isNew, standingOf}
+use Rattle.facts.specs.Rules.{isNew, standingOf, allFlags}
 use Rattle.verdict.specs.declared.Verdict.{Verdict}
-use Rattle.verdict.specs.Codes.{codeCount}
+use Rattle.verdict.specs.Codes.{entriesNeeded}
 use Rattle.verdict.specs.Verdict.{codesFound, verdictOf, refusedBy}
-use Rattle.verdict.specs.Findings.{findingsAfter}
-use Rattle.verdict.specs.Bits.{flagsIn}
-use Rattle.verdict.proofs.ListLaws.{after-room}
-use Rattle.verdict.proofs.WordLaws.{words-find}
-use Rattle.judge.specs.Refusal.{allFlags, clean, early, notWhole, noRoom}
+use Rattle.verdict.specs.Bits.{listedBy}
+use Rattle.verdict.proofs.WordLaws.{verdict-lists}
+use Rattle.judge.specs.Refusal.{clean, early, notWhole, noRoom}
 use Rattle.judge.specs.Outcome.{written, refusedOutcome, outcome, Judged}
 use Rattle.judge.proofs.Firsts.{none-holds}
+use Rattle.judge.proofs.FlagLaws.{flag-count, few-found}
 use Rattle.judge.proofs.Cases.{out-early, out-ten, out-eleven, out-judged}
 
 nothing : (l : List ℕ) → length l ≡ 0 → l ≡ []
@@ -46,8 +45,10 @@ module _ (c : Call) (before : List ℕ) where
     pub ten-way : {v : Verdict} → (barsOf (c .line) ≡ 64 → ⊥) → v ≡ refusedBy 10 → Judged (outcome c (length before)) before v before (c .register)
     ten-way h s = refused-as 10 (out-ten c (length before) none (rw (ne-eqb _ _ h))) s
 
-    room : codeCount ≤ length before
-    room = ltb-false (length before) codeCount (none-holds 0 (early c (length before)) 7 none)
+    room : length (codesFound (allFlags c)) ≤ length before
+    room =
+        let needed : entriesNeeded (c .polish) ≤ length before = ltb-false (length before) (entriesNeeded (c .polish)) (none-holds 0 (early c (length before)) 7 none) in
+        omega (arith, few-found c)
 
     module _ {found : List Bool} {v : Verdict} (sixty-five : barsOf (c .line) ≡ 64) (flags-are : found ≡ allFlags c) (says : v ≡ verdictOf found) where
       whole : notWhole c ≡ false
@@ -61,15 +62,15 @@ module _ (c : Call) (before : List ℕ) where
       unfolding clean
       not-clean h = ne-eqb _ _ (λ e. h (count-is ∙ e))
 
-      pub found-way : {findings : List ℕ} → (v .count ≡ 0 → ⊥) → findings ≡ findingsAfter (flagsIn (v .words)) before
+      pub found-way : {findings : List ℕ} → (v .count ≡ 0 → ⊥) → findings ≡ listedBy (v .words) before
           → Judged (outcome c (length before)) before v findings (c .register)
-      unfolding noRoom verdictOf
+      unfolding noRoom
       found-way h l =
           let dirty : clean c ≡ false = not-clean h in
           rw (out-judged c (length before) none whole (rw dirty))
           (record {
             says = says ∙ ap verdictOf flags-are;
-            lists = l ∙ (λ j. findingsAfter (flagsIn (says j .words)) before) ∙ words-find found before ∙ ap (λ (fs : List Bool). findingsAfter fs before) flags-are ∙ sym (after-room (allFlags c) before room);
+            lists = l ∙ (λ j. listedBy ((says ∙ ap verdictOf flags-are) j .words) before) ∙ verdict-lists (allFlags c) before (flag-count c) room;
             keeps = rw dirty;
           })
 

@@ -9,11 +9,11 @@ use Rattle.register.specs.Pair.{pairBytes}
 use Rattle.register.specs.Rows.{firstRow}
 use Rattle.register.specs.Written.{setLive, setCancelled}
 use Rattle.facts.specs.Call.{Call}
-use Rattle.facts.specs.Rules.{isNew}
+use Rattle.facts.specs.Rules.{isNew, allFlags}
 use Rattle.verdict.specs.declared.Verdict.{Verdict}
 use Rattle.verdict.specs.Verdict.{codesFound, verdictOf, refusedBy}
 use Rattle.verdict.specs.Findings.{over}
-use Rattle.judge.specs.Refusal.{allFlags, clean, refusal}
+use Rattle.judge.specs.Refusal.{clean, refusal}
 
 pub record Outcome : Type 0 where
   pub verdict : Verdict

@@ -7,20 +7,15 @@ use lib.ListN.{length}
 use Rattle.text.specs.FirstFrom.{firstFrom}
 use Rattle.calendar.specs.Moments.{isMoment}
 use Rattle.cells.specs.Cells.{barsOf}
-use Rattle.forms.specs.Findings.{formFindings}
 use Rattle.lists.specs.Frame.{framed}
 use Rattle.lists.specs.declared.frame.Mark.the-variants.{Lei, Cty, Ccy, Ven, Ins}
 use Rattle.register.specs.Frame.{full}
 use Rattle.facts.specs.Call.{Call}
 use Rattle.facts.specs.Words.{isAbsent}
-use Rattle.facts.specs.Rules.{isNew, standingOf, flags}
-use Rattle.verdict.specs.Codes.{codeCount}
+use Rattle.facts.specs.Rules.{isNew, standingOf, allFlags}
+use Rattle.verdict.specs.Codes.{entriesNeeded}
 use Rattle.verdict.specs.Verdict.{codesFound}
 use Rattle.register.specs.Frame as register
-
--- the 138 flags of a call: 73 rules, 65 forms
-unfoldable pub allFlags : Call → List Bool
-allFlags c = flags c ++ formFindings (c .line)
 
 -- no finding
 unfoldable pub clean : Call → Bool
@@ -40,7 +35,7 @@ early c room =
     -- 7: the submission moment
     ∷ not (isMoment (c .day) (c .micro))
     -- 8: the findings buffer
-    ∷ ltb room codeCount
+    ∷ ltb room (entriesNeeded (c .polish))
     -- 9: the line's length
     ∷ ltb 4096 (length (c .line))
     ∷ []

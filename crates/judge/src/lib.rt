@@ -1,15 +1,14 @@
 // One line judged: refused by number, or answered with its findings, and the register written where there are none.
 ghost use mathlib.Core.Path.{_≡_};
 ghost use mathlib.Core.Bool.{cond};
-ghost use mathlib.Core.List.{List, [], _++_};
+ghost use mathlib.Core.List.{List, []};
 ghost use Prim.Native.Nat.{ℕ};
 ghost use lib.ListN.{length};
 ghost use Rattle.text.specs.FirstFrom.{firstFrom};
 ghost use Rattle.cells.specs.Split.{Tabled};
 ghost use Rattle.register.specs.Written.{setLive, setCancelled};
-ghost use Rattle.forms.specs.Findings.{formFindings};
 ghost use Rattle.facts.specs.Call.{call};
-ghost use Rattle.facts.specs.Rules.{pairStands, flags};
+ghost use Rattle.facts.specs.Rules.{pairStands, allFlags};
 ghost use Rattle.judge.specs.Refusal.{early};
 ghost use Rattle.judge.specs.Outcome.{pairOf, outcome, Judged};
 use lists::Mark;
@@ -43,9 +42,10 @@ fn early_refusal(
     register: &[u8],
     day: u32,
     micro: u64,
+    polish: bool,
     room: usize,
 ) -> u16
-    ensures { λ r. ⌜ r ≡ firstFrom 1 (early (call (now (line .entry)) (now (lei .entry)) (now (cty .entry)) (now (ccy .entry)) (now (ven .entry)) (now (ins .entry)) (now (register .entry)) day micro) room) ⌝ }
+    ensures { λ r. ⌜ r ≡ firstFrom 1 (early (call (now (line .entry)) (now (lei .entry)) (now (cty .entry)) (now (ccy .entry)) (now (ven .entry)) (now (ins .entry)) (now (register .entry)) day micro polish) room) ⌝ }
 {
     first_of([
         !lists::framed(Mark::Lei, lei),
@@ -55,7 +55,7 @@ fn early_refusal(
         !lists::framed(Mark::Ins, ins),
         !register::framed(register),
         !calendar::is_moment(day, micro),
-        room < CODE_COUNT,
+        room < verdict::entries_needed(polish),
         4096 < line.len(),
     ])
 }
@@ -94,14 +94,25 @@ fn flags_of<'a, 't>(
     standing: Standing,
     day: u32,
     micro: u64,
+    polish: bool,
 ) -> [bool; CODE_COUNT]
     requires { ⌜ Tabled (now line) (now starts) (now ends) ⌝ }
-    ensures { λ r. ⌜ ((register : List ℕ) → standing ≡ pairStands register (now (line .entry)) → r ≡ flags (call (now (line .entry)) (now (lei .entry)) (now (cty .entry)) (now (ccy .entry)) (now (ven .entry)) (now (ins .entry)) register day micro) ++ formFindings (now (line .entry))) ⌝ }
+    ensures { λ r. ⌜ ((register : List ℕ) → standing ≡ pairStands register (now (line .entry)) → r ≡ allFlags (call (now (line .entry)) (now (lei .entry)) (now (cty .entry)) (now (ccy .entry)) (now (ven .entry)) (now (ins .entry)) register day micro polish)) ⌝ }
 {
     if text::same(cells::cell(line, starts, ends, 1), b"NEW") {
         let read = forms::read_cells(line, starts, ends);
         let asked = asked::ask(line, starts, ends, read, lei, cty, ccy, ven, ins, day);
-        return rules::when_new(line, starts, ends, read, asked, standing, day, micro);
+        return rules::when_new(
+            line,
+            starts,
+            ends,
+            read,
+            asked,
+            standing,
+            day,
+            micro,
+            polish,
+        );
     }
     let submitting = asked::lei_fit(lei, cells::cell(line, starts, ends, 6), day);
     rules::unless_new(line, starts, ends, submitting, standing)
@@ -117,9 +128,10 @@ pub fn judge(
     register: &mut [u8],
     day: u32,
     micro: u64,
+    polish: bool,
     findings: &mut [u16],
 ) -> Verdict
-    ensures { λ r. ⌜ Judged (outcome (call (now (line .entry)) (now (lei .entry)) (now (cty .entry)) (now (ccy .entry)) (now (ven .entry)) (now (ins .entry)) (now (register .entry)) day micro) (length (now (findings .entry)))) (now (findings .entry)) r (now (findings .exit)) (now (register .exit)) ⌝ }
+    ensures { λ r. ⌜ Judged (outcome (call (now (line .entry)) (now (lei .entry)) (now (cty .entry)) (now (ccy .entry)) (now (ven .entry)) (now (ins .entry)) (now (register .entry)) day micro polish) (length (now (findings .entry)))) (now (findings .entry)) r (now (findings .exit)) (now (register .exit)) ⌝ }
 {
     let no = early_refusal(
         line,
@@ -131,6 +143,7 @@ pub fn judge(
         register,
         day,
         micro,
+        polish,
         findings.len(),
     );
     if no != 0 {
@@ -155,6 +168,7 @@ pub fn judge(
         standing,
         day,
         micro,
+        polish,
     );
     let verdict = verdict::judged(&flags);
     if verdict.count != 0 {

@@ -17,7 +17,7 @@ returns : tie.Need-returns
 returns c =
     λ register stands.
     let a = (c .before .before .before .before .before .before .before .before .before .before .before .before .before .args) in
-    let k = call (a .line .now) (a .lei .now) (a .cty .now) (a .ccy .now) (a .ven .now) (a .ins .now) register (a .day) (a .micro) in
+    let k = call (a .line .now) (a .lei .now) (a .cty .now) (a .ccy .now) (a .ven .now) (a .ins .now) register (a .day) (a .micro) (a .polish) in
     let asked = (c .before .ask) .ensures ∙ (λ j. askedOf (k .line) ((c .before .before .read-cells) .ensures j) (k .lei) (k .cty) (k .ccy) (k .ven) (k .ins) (((λ i. momentIn ((c .before .before .read-cells) .ensures i .moment) .day) ∙ trade-day-from k) j) (k .day)) in
     (c .when-new) .ensures (a .lei .now) (a .cty .now) (a .ccy .now) (a .ven .now) (a .ins .now) register asked stands
 
@@ -28,7 +28,7 @@ returns-2 : tie.Need-returns-2
 returns-2 c =
     λ register stands.
     let a = (c .before .before .before .before .before .before .before .before .before .before .before .before .before .args) in
-    (c .unless-new) .ensures (a .lei .now) (a .cty .now) (a .ccy .now) (a .ven .now) (a .ins .now) register (a .day) (a .micro) ((c .before .lei-fit) .ensures ∙ (λ j. leiFit (a .lei .now) ((c .before .before .cell2) .ensures j) (a .day))) stands
+    (c .unless-new) .ensures (a .lei .now) (a .cty .now) (a .ccy .now) (a .ven .now) (a .ins .now) register (a .day) (a .micro) (a .polish) ((c .before .lei-fit) .ensures ∙ (λ j. leiFit (a .lei .now) ((c .before .before .cell2) .ensures j) (a .day))) stands
 
 pub flags-of-spec : {M : Type 1} → statement M
 flags-of-spec =

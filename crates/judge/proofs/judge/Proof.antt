@@ -12,8 +12,7 @@ use Rattle.register.specs.Written.{setLive, setCancelled}
 use Rattle.register.proofs.RowLaws.{standing-found}
 use Rattle.facts.specs.Call.{Call, call}
 use Rattle.facts.specs.Words.{isAbsent}
-use Rattle.facts.specs.Rules.{pairStands}
-use Rattle.judge.specs.Refusal.{allFlags}
+use Rattle.facts.specs.Rules.{pairStands, allFlags}
 use Rattle.judge.specs.Outcome.{pairOf, written}
 use Rattle.judge.proofs.Ways.{early-way, ten-way, found-way, full-way, clean-way}
 use borrow.Author.Needs.{needs}
@@ -22,7 +21,7 @@ use borrow.Author.Needs.{needs}
 abbrev C : tie.Start → Call
 C s =
     call (s .args .line .now) (s .args .lei .now) (s .args .cty .now) (s .args .ccy .now) (s .args .ven .now) (s .args .ins .now) (s .args .register .now)
-    (s .args .day) (s .args .micro)
+    (s .args .day) (s .args .micro) (s .args .polish)
 
 returns : tie.Need-returns
 returns c = early-way (C (c .before .before .before .before .before .before .before .before .before .before .before .before)) (c .before .before .before .before .before .before .before .before .before .before .before .before .args .findings .now) (c .before .before .early-refusal .ensures) (c .before .if1 .taken) (c .refused .ensures)
@@ -37,7 +36,7 @@ flags-of-requires : tie.Need-flags-of-requires
 flags-of-requires c κs = split-whole (c .before .before .before .before .before .before .before .before .before .before .before .before .before .before .before .before .before .before .before .before .before .before .before .before .before .args .line .now) (c .before .before .before .before .before .before .before .before .before .before .before .before .before .split .result) (c .before .before .before .before .before .before .before .before .before .before .before .before .before .split .ensures) (not-false _ (c .before .before .before .before .before .before .before .before .before .before .before .before .if2 .left))
 
 returns-3 : tie.Need-returns-3
-unfolding pairStands allFlags
+unfolding pairStands
 returns-3 c =
     let l = (c .before .before .before .before .before .before .before .before .before .before .before .before .before .before .before .before .before .before .before .before .before .before .before .before .before .before .before .before .before .before .before .before .before .before .before .args) .line .now in
     let R = (c .before .before .before .before .before .before .before .before .before .before .before .before .before .before .before .before .before .before .before .before .before .before .before .before .before .before .before .before .before .before .before .before .before .before .before .args) .register .now in
@@ -52,7 +51,7 @@ cell-requires : tie.Need-cell-requires
 cell-requires c κs = split-whole (c .before .before .before .before .before .before .before .before .before .before .before .before .before .before .before .before .before .before .before .before .before .before .before .before .before .before .before .before .before .before .before .before .before .args .line .now) (c .before .before .before .before .before .before .before .before .before .before .before .before .before .before .before .before .before .before .before .before .before .split .result) (c .before .before .before .before .before .before .before .before .before .before .before .before .before .before .before .before .before .before .before .before .before .split .ensures) (not-false _ (c .before .before .before .before .before .before .before .before .before .before .before .before .before .before .before .before .before .before .before .before .if2 .left))
 
 returns-4 : tie.Need-returns-4
-unfolding pairStands allFlags
+unfolding pairStands
 returns-4 c =
     let l = (c .before .before .before .before .before .before .before .before .before .before .before .before .before .before .before .before .before .before .before .before .before .before .before .before .before .before .before .before .before .before .before .before .before .before .before .before .before .before .before .before .before .args) .line .now in
     let R = (c .before .before .before .before .before .before .before .before .before .before .before .before .before .before .before .before .before .before .before .before .before .before .before .before .before .before .before .before .before .before .before .before .before .before .before .before .before .before .before .before .before .args) .register .now in
@@ -66,7 +65,7 @@ returns-4 c =
     full-way (C (c .before .before .before .before .before .before .before .before .before .before .before .before .before .before .before .before .before .before .before .before .before .before .before .before .before .before .before .before .before .before .before .before .before .before .before .before .before .before .before .before .before)) (c .before .before .before .before .before .before .before .before .before .before .before .before .before .before .before .before .before .before .before .before .before .before .before .before .before .before .before .before .before .before .before .before .before .before .before .before .before .before .before .before .before .args .findings .now) (c .before .before .before .before .before .before .before .before .before .before .before .before .before .before .before .before .before .before .before .before .before .before .before .before .before .before .before .before .before .before .before .early-refusal .ensures) (c .before .before .before .before .before .before .before .before .before .before .before .before .before .before .before .before .before .before .before .before .before .before .before .before .before .before .before .before .before .before .if1 .left) (tabled .count) flags (c .before .before .before .before .before .before .before .before .before .before .before .before .before .judged .ensures) (c .before .before .before .before .before .before .before .before .before .before .before .if3 .left) new absent (c .before .before .full .ensures) (c .before .if4 .taken) (c .refused3 .ensures)
 
 returns-5 : tie.Need-returns-5
-unfolding pairStands allFlags written
+unfolding pairStands written
 returns-5 c =
     let l = (c .before .before .before .before .before .before .before .before .before .before .before .before .before .before .before .before .before .before .before .before .before .before .before .before .before .before .before .before .before .before .before .before .before .before .before .before .before .before .before .before .before .before .before .before .before .args) .line .now in
     let R = (c .before .before .before .before .before .before .before .before .before .before .before .before .before .before .before .before .before .before .before .before .before .before .before .before .before .before .before .before .before .before .before .before .before .before .before .before .before .before .before .before .before .before .before .before .before .args) .register .now in
