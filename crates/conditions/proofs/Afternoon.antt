@@ -31,14 +31,14 @@ use Rattle.register.specs.Rows.{rowsIn, ownFrom, look, firstRow, standing}
 use Rattle.register.specs.Written.{restated, appended, put, setCancelled}
 use Rattle.cfi.specs.Rules.{words, rules, any, matches, broken, violated}
 use Rattle.cfi.specs.Table.{spaced, textOf, rowsFrom as rowsFrom-cfi, matchesIn, rowBroken, marked}
-use Rattle.facts.specs.Rules.{goodCells, pairStands, holdings, flags}
+use Rattle.facts.specs.Rules.{goodCells, pairStands, holdings, flags, polishFlags, allFlags}
 use Rattle.baskets.specs.Items.{inFront, allRight}
 use Rattle.baskets.specs.Underlying.{kindNamed}
 use Rattle.facts.specs.Words.{momentOf, dayOf, leiGoodUnlapsed, leiGood, leiWrong, countryWrong, partyLeiWrong, partyCountryWrong, partyMicWrong, partyShapeWrong, birthWrong, isLate, isPast, isEntity, currencyWrong, quantityCurrencyWrong, secondCurrency, isinWrong, notBefore, tooOld, heldWord, heldQuantity, heldPrice, heldSwap}
-use Rattle.verdict.specs.Codes.{ruleCodes, formCodes, codes, codeCount}
+use Rattle.verdict.specs.Codes.{ruleCodes, formCodes, polishCodes, codes, codeCount}
 use Rattle.verdict.specs.Verdict.{wordOf, pick, verdictOf, refusedBy}
 use Rattle.judge.specs.Outcome.{Outcome, written, outcome}
-use Rattle.judge.specs.Refusal.{allFlags, clean, noRoom, refusal}
+use Rattle.judge.specs.Refusal.{clean, noRoom, refusal}
 
 step :
     {c : ℕ} {earlier : List Answered} (line register : List ℕ) (o : Outcome) → Run c earlier register → outcome (at line register) codeCount ≡ o
@@ -49,7 +49,7 @@ step line register o run e =
 
 -- each call
 pub afternoon : Afternoon
-unfolding allOf firstFrom digitOf numeral numberOf twoDigits fourDigits suits shape startsWith same among oneOf dayWritten leap monthLength isDay fiveYearsBefore isTime isEnding microWritten isMomentCell whenOf isMoment named wellFormed identifierOf partyWith valueOf digitsOf writtenDigits decimal pointAt whole decimals isDecimal digitsOf-amount valueOf-amount tagged priceOf quantityOf cellsOf cell statusOf formFinding formFindings holds formOf framedAs chunks rowsFrom some used capacity framed full isUsed filled pairBytes rowsIn ownFrom look firstRow standing restated appended put setCancelled words rules any matches broken violated spaced textOf rowsFrom-cfi matchesIn rowBroken marked goodCells pairStands holdings flags momentOf dayOf leiGoodUnlapsed leiGood leiWrong countryWrong partyLeiWrong partyCountryWrong partyMicWrong partyShapeWrong birthWrong isLate isPast isEntity currencyWrong quantityCurrencyWrong secondCurrency isinWrong notBefore tooOld heldWord heldQuantity heldPrice heldSwap inFront allRight kindNamed ruleCodes formCodes codes wordOf pick verdictOf refusedBy written outcome allFlags clean noRoom refusal
+unfolding allOf firstFrom digitOf numeral numberOf twoDigits fourDigits suits shape startsWith same among oneOf dayWritten leap monthLength isDay fiveYearsBefore isTime isEnding microWritten isMomentCell whenOf isMoment named wellFormed identifierOf partyWith valueOf digitsOf writtenDigits decimal pointAt whole decimals isDecimal digitsOf-amount valueOf-amount tagged priceOf quantityOf cellsOf cell statusOf formFinding formFindings holds formOf framedAs chunks rowsFrom some used capacity framed full isUsed filled pairBytes rowsIn ownFrom look firstRow standing restated appended put setCancelled words rules any matches broken violated spaced textOf rowsFrom-cfi matchesIn rowBroken marked goodCells pairStands holdings flags polishFlags momentOf dayOf leiGoodUnlapsed leiGood leiWrong countryWrong partyLeiWrong partyCountryWrong partyMicWrong partyShapeWrong birthWrong isLate isPast isEntity currencyWrong quantityCurrencyWrong secondCurrency isinWrong notBefore tooOld heldWord heldQuantity heldPrice heldSwap inFront allRight kindNamed ruleCodes formCodes polishCodes codes wordOf pick verdictOf refusedBy written outcome allFlags clean noRoom refusal
 afternoon =
     record { too-early = refl; reported = refl; twice = refl; cancelled = refl; twice-cancelled = refl; again = refl; no-room = refl }
 

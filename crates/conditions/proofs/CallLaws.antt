@@ -24,8 +24,8 @@ use Rattle.register.proofs.PutLaws.{put-framed, put-rows, cancelled-put}
 use Rattle.register.proofs.TableLaws.{look-put}
 use Rattle.facts.specs.Call.{Call}
 use Rattle.facts.specs.Words.{isLive, isAbsent, isCancelled}
-use Rattle.facts.specs.Rules.{isNew, pairStands, standingOf, flags}
-use Rattle.judge.specs.Refusal.{allFlags, clean, early, notWhole, noRoom}
+use Rattle.facts.specs.Rules.{isNew, pairStands, standingOf, flags, allFlags}
+use Rattle.judge.specs.Refusal.{clean, early, notWhole, noRoom}
 use Rattle.judge.specs.Outcome.{pairOf, written, refusedOutcome, judgedOutcome, outcome}
 use Rattle.judge.proofs.Firsts.{first-small}
 use Rattle.judge.proofs.Cases.{out-early, out-ten, out-eleven, out-judged}

@@ -13,19 +13,19 @@ use Rattle.text.specs.FirstFrom.{firstFrom}
 use Rattle.text.proofs.Bools.{and-left}
 use Rattle.register.specs.Frame.{framed}
 use Rattle.facts.specs.Call.{Call}
-use Rattle.facts.specs.Rules.{pairStands}
+use Rattle.facts.specs.Rules.{pairStands, allFlags}
 use Rattle.verdict.specs.declared.Verdict.{Verdict}
-use Rattle.verdict.specs.Codes.{codes, codeCount}
+use Rattle.verdict.specs.Codes.{codes, entriesNeeded}
 use Rattle.verdict.specs.Verdict.{bit, codesFound, verdictOf, refusedBy}
 use Rattle.verdict.specs.Counted.{bitsSet, bitAt, risingOver, times}
-use Rattle.verdict.proofs.ListLaws.{pick-short}
-use Rattle.verdict.proofs.Promises.{code-count, count-bits, bit-is-flag, found-rise, found-once}
-use Rattle.judge.specs.Refusal.{allFlags, clean, early, noRoom}
+use Rattle.verdict.proofs.Promises.{count-bits, bit-is-flag, found-rise, found-once}
+use Rattle.judge.specs.Refusal.{clean, early, noRoom}
 use Rattle.judge.specs.Outcome.{written, Outcome, refusedOutcome, judgedOutcome, outcome, Judged}
 use Rattle.judge.proofs.Firsts.{none-holds}
+use Rattle.judge.proofs.FlagLaws.{flag-count, few-found}
 use Rattle.conditions.specs.Condition1.{reached}
 use Rattle.conditions.specs.Condition2.{listed, NotRefused, Condition2}
-use Rattle.conditions.proofs.FoundLaws.{flag-count, rule-once, form-once, none-other, nothing-found, says-found, lists-found, count-found, listed-found}
+use Rattle.conditions.proofs.FoundLaws.{rule-once, form-once, none-other, nothing-found, says-found, lists-found, count-found, listed-found}
 use Rattle.conditions.proofs.CallLaws.{Way, refused, stuck, heard, way, sound, stands-after}
 
 module _ (call : Call) {before findings left : List ℕ} {verdict : Verdict} (j : Judged (outcome call (length before)) before verdict findings left) where
@@ -33,18 +33,18 @@ module _ (call : Call) {before findings left : List ℕ} {verdict : Verdict} (j 
   found = codesFound (allFlags call)
 
   module _ (r : reached call (length before) ≡ true) (t : noRoom call ≡ false) (o : outcome call (length before) ≡ judgedOutcome call) where
-    -- none of the first nine tests holds: there is room for every code, and the register is framed
+    -- none of the first nine tests holds: there is room for every code found, and the register is framed
     none : firstFrom 1 (early call (length before)) ≡ 0
     none = eqb-true _ _ (and-left (eqb (firstFrom 1 (early call (length before))) 0) _ r)
 
-    room : codeCount ≤ length before
-    room = ltb-false (length before) codeCount (none-holds 0 (early call (length before)) 7 none)
+    room : entriesNeeded (call .polish) ≤ length before
+    room = ltb-false (length before) (entriesNeeded (call .polish)) (none-holds 0 (early call (length before)) 7 none)
 
     is-framed : framed 1 0 (call .register) ≡ true
     is-framed = not-false (framed 1 0 (call .register)) (none-holds 0 (early call (length before)) 5 none)
 
     fits : length found ≤ length before
-    fits = omega (arith, room, pick-short codes (allFlags call), code-count)
+    fits = omega (arith, room, few-found call)
 
     keeps : left ≡ cond (clean call) (written (call .line) (call .register)) (call .register)
     keeps = j .keeps ∙ ap (λ (x : Outcome). x .register) o

@@ -14,11 +14,11 @@ use Rattle.register.specs.Frame.{full}
 use Rattle.register.proofs.PairLaws.{Shaped}
 use Rattle.facts.specs.Call.{Call}
 use Rattle.facts.specs.Words.{isLive, isAbsent, isCancelled}
-use Rattle.facts.specs.Rules.{Rule, rule, rules, OnNew, OnCxl, given, isNew, isCxl, good, pairStands, standingOf}
+use Rattle.facts.specs.Rules.{Rule, rule, allRules, OnNew, OnCxl, given, isNew, isCxl, good, pairStands, standingOf, allFlags}
 use Rattle.verdict.specs.declared.Verdict.{Verdict}
 use Rattle.verdict.specs.Verdict.{bit, verdictOf, refusedBy}
 use Rattle.verdict.specs.Counted.{times}
-use Rattle.judge.specs.Refusal.{allFlags, clean, noRoom}
+use Rattle.judge.specs.Refusal.{clean, noRoom}
 use Rattle.judge.specs.Outcome.{written, Outcome, refusedOutcome, outcome, Judged}
 use Rattle.conditions.specs.Condition1.{reached}
 use Rattle.conditions.specs.Condition2.{accepted, listed}
@@ -108,7 +108,7 @@ room-clean call t = and-left (clean call) (isNew (call .line) && (isAbsent (stan
 
 -- what a call lists of a rule: its code once if the call reaches the rules and the rule gives it
 module _ (call : Call) {before findings left : List ℕ} {verdict : Verdict} (j : Judged (outcome call (length before)) before verdict findings left)
-    (r : Rule) (one : Among r rules) where
+    (r : Rule) (one : Among r allRules) where
   none-listed : (m : ℕ) → outcome call (length before) ≡ refusedOutcome call m → times (r .code) (listed verdict findings) ≡ 0
   unfolding refusedBy times
   none-listed m o = ap (λ (v : Verdict). times (r .code) (listed v findings)) (j .says ∙ ap (λ (x : Outcome). x .verdict) o)

@@ -1,6 +1,7 @@
 -- The codes found of a call: each rule's and each cell's once if its flag is set, and no other number.
 use mathlib.Core.Path.{_≡_, _∙_, refl, sym, ap}
 use mathlib.Core.Bool.{Bool, true, false}
+use mathlib.Core.Logic.{_⊎_, inl, inr, ⊎-elim}
 use mathlib.Core.List.{List, [], _∷_, _++_, map, List·Memᴰ as Among, List·Memᴰ·head as here, List·Memᴰ·tail as there}
 use Prim.Native.Nat.{ℕ, zero, suc, _+_, _≤_, _<_}
 use native.Mathlib.Omega.{arith}
@@ -12,17 +13,18 @@ use Rattle.text.specs.Number.{countFrom}
 use Rattle.text.proofs.Bools.{by-test}
 use Rattle.forms.specs.Findings.{formFindings}
 use Rattle.facts.specs.Call.{Call}
-use Rattle.facts.specs.Rules.{Rule, rules, given, flags}
-use Rattle.rules.proofs.InOrder.{rules-in-order}
+use Rattle.facts.specs.Rules.{Rule, rules, polishRules, allRules, given, flags, polishFlags, allFlags}
+use Rattle.rules.proofs.InOrder.{rules-in-order, polish-in-order}
 use Rattle.verdict.specs.declared.Verdict.{Verdict}
-use Rattle.verdict.specs.Codes.{ruleCodes, formCodes, codes, ruleCount, codeCount}
+use Rattle.verdict.specs.Codes.{ruleCodes, formCodes, polishCodes, codes, ruleCount, codeCount}
 use Rattle.verdict.specs.Verdict.{bit, pick, codesFound, verdictOf}
 use Rattle.verdict.specs.Findings.{over}
 use Rattle.verdict.specs.Counted.{flagsSet, times}
-use Rattle.verdict.proofs.ListLaws.{length-pick}
+use Rattle.verdict.proofs.ListLaws.{length-pick, set-append}
 use Rattle.verdict.proofs.Promises.{code-count, found-once, found-known}
-use Rattle.judge.specs.Refusal.{allFlags, clean}
+use Rattle.judge.specs.Refusal.{clean}
 use Rattle.judge.specs.Outcome.{Outcome, judgedOutcome, outcome, Judged}
+use Rattle.judge.proofs.FlagLaws.{flag-count}
 use Rattle.conditions.specs.Condition2.{listed, malformed}
 use Rattle.conditions.proofs.LineLaws.{bit-none, none-found}
 
@@ -56,10 +58,11 @@ unfolding times
 times-append x [] ys = omega arith
 times-append x (y ∷ xs) ys = omega (arith, times-append x xs ys)
 
-set-append : (xs ys : List Bool) → flagsSet (xs ++ ys) ≡ flagsSet xs + flagsSet ys
-unfolding flagsSet
-set-append [] ys = omega arith
-set-append (x ∷ xs) ys = omega (arith, set-append xs ys)
+-- an element of two lists is of one of them
+either-list : {A : Type 0} {x : A} (xs ys : List A) → Among x (xs ++ ys) → Among x xs ⊎ Among x ys
+either-list [] ys m = inr m
+either-list (a ∷ xs) ys (here e) = inl (here e)
+either-list (a ∷ xs) ys (there m) = ⊎-elim (λ n. inl (there n)) inr (either-list xs ys m)
 
 -- the numbers that follow one another
 among-counted : (k n f : ℕ) → k ≤ f → f < k + n → Among f (countFrom k n)
@@ -73,71 +76,90 @@ counted-among : (k n f : ℕ) → Among f (countFrom k n) → (k ≤ f) × (f < 
 counted-among k (suc n) f (here e) = (omega arith, omega arith)
 counted-among k (suc n) f (there m) = let (least, most) = counted-among (suc k) n f m in (omega arith, omega arith)
 
--- the table of codes: the rules' own, then 1000 + f for each cell
+-- the table of codes: the rules' own, then 1000 + f for each cell, then those for Polish identifiers
 form-codes : formCodes ≡ map (λ f. 1000 + f) (countFrom 1 65)
 unfolding formCodes
 form-codes = refl
 
-module _ (c : Call) where
-  -- a call has a flag for each code
-  pub flag-count : length (allFlags c) ≡ codeCount
-  unfolding allFlags flags formFindings
-  flag-count = refl
+abbrev codeOf : Rule → ℕ
+codeOf r = r .code
 
-  pub rule-once : (r : Rule) → Among r rules → times (r .code) (codesFound (allFlags c)) ≡ bit (given c r)
+module _ (c : Call) where
+  -- a code whose flag stands at its place
+  once-at : (i : ℕ) → i < codeCount → {code : ℕ} {flag : Bool} → getD codes i 0 ≡ code → getD (allFlags c) i false ≡ flag
+      → times code (codesFound (allFlags c)) ≡ bit flag
+  once-at i h code-at flag-at =
+      ap (λ n. times n (codesFound (allFlags c))) (sym code-at) ∙ found-once (allFlags c) (flag-count c) i h ∙ ap bit flag-at
+
+  base-once : (r : Rule) → Among r rules → times (r .code) (codesFound (allFlags c)) ≡ bit (given c r)
   unfolding codes allFlags flags
-  rule-once r m =
+  base-once r m =
       let within : place m < ruleCount = place-within m in
-      let code-at : getD codes (place m) 0 ≡ r .code =
-      ap (λ (t : List ℕ). getD (t ++ formCodes) (place m) 0) (sym rules-in-order)
-      ∙ List·getD-append (map (λ (q : Rule). q .code) rules) formCodes 0 (place m) within
-      ∙ mapped-at (λ (q : Rule). q .code) 0 m
-      in
-      let flag-at : getD (allFlags c) (place m) false ≡ given c r =
-      List·getD-append (map (given c) rules) (formFindings (c .line)) false (place m) within ∙ mapped-at (given c) false m
-      in
-      ap (λ n. times n (codesFound (allFlags c))) (sym code-at) ∙ found-once (allFlags c) flag-count (place m) (omega arith) ∙ ap bit flag-at
+      once-at (place m) (omega arith)
+      (ap (λ (t : List ℕ). getD (t ++ (formCodes ++ polishCodes)) (place m) 0) (sym rules-in-order)
+      ∙ List·getD-append (map codeOf rules) (formCodes ++ polishCodes) 0 (place m) within
+      ∙ mapped-at codeOf 0 m)
+      (List·getD-append (map (given c) rules) (formFindings (c .line) ++ polishFlags c) false (place m) within ∙ mapped-at (given c) false m)
 
   pub form-once : (f : ℕ) → 1 ≤ f → f ≤ 65 → times (1000 + f) (codesFound (allFlags c)) ≡ bit (malformed c f)
   unfolding codes ruleCodes allFlags flags formFindings
   form-once f h k =
       let m : Among f (countFrom 1 65) = among-counted 1 65 f h (omega arith) in
       let within : place m < 65 = place-within m in
-      let code-at : getD codes (ruleCount + place m) 0 ≡ 1000 + f =
-      getD-append-add ruleCodes formCodes (place m) 0
-      ∙ ap (λ (t : List ℕ). getD t (place m) 0) form-codes
-      ∙ mapped-at (λ g. 1000 + g) 0 m
-      in
-      let flag-at : getD (allFlags c) (ruleCount + place m) false ≡ malformed c f =
-      getD-append-add (map (given c) rules) (formFindings (c .line)) (place m) false ∙ mapped-at (malformed c) false m
-      in
-      ap (λ n. times n (codesFound (allFlags c))) (sym code-at) ∙ found-once (allFlags c) flag-count (ruleCount + place m) (omega arith) ∙ ap bit flag-at
+      once-at (ruleCount + place m) (omega arith)
+      (getD-append-add ruleCodes (formCodes ++ polishCodes) (place m) 0
+      ∙ ap (λ (t : List ℕ). getD (t ++ polishCodes) (place m) 0) form-codes
+      ∙ List·getD-append (map (λ g. 1000 + g) (countFrom 1 65)) polishCodes 0 (place m) within
+      ∙ mapped-at (λ g. 1000 + g) 0 m)
+      (getD-append-add (map (given c) rules) (formFindings (c .line) ++ polishFlags c) (place m) false
+      ∙ List·getD-append (formFindings (c .line)) (polishFlags c) false (place m) within
+      ∙ mapped-at (malformed c) false m)
+
+  polish-once : (r : Rule) → Among r polishRules → times (r .code) (codesFound (allFlags c)) ≡ bit (given c r)
+  unfolding codes ruleCodes formCodes allFlags flags formFindings polishFlags
+  polish-once r m =
+      let within : place m < 3 = place-within m in
+      once-at (ruleCount + (65 + place m)) (omega arith)
+      (getD-append-add ruleCodes (formCodes ++ polishCodes) (65 + place m) 0
+      ∙ getD-append-add formCodes polishCodes (place m) 0
+      ∙ ap (λ (t : List ℕ). getD t (place m) 0) (sym polish-in-order)
+      ∙ mapped-at codeOf 0 m)
+      (getD-append-add (map (given c) rules) (formFindings (c .line) ++ polishFlags c) (65 + place m) false
+      ∙ getD-append-add (formFindings (c .line)) (polishFlags c) (place m) false
+      ∙ mapped-at (given c) false m)
+
+  pub rule-once : (r : Rule) → Among r allRules → times (r .code) (codesFound (allFlags c)) ≡ bit (given c r)
+  rule-once r m = ⊎-elim (base-once r) (polish-once r) (either-list rules polishRules m)
 
   pub none-other :
-      (x : ℕ) → ((r : Rule) → Among r rules → x ≡ r .code → ⊥) → ((f : ℕ) → 1 ≤ f → f ≤ 65 → x ≡ 1000 + f → ⊥)
+      (x : ℕ) → ((r : Rule) → Among r allRules → x ≡ r .code → ⊥) → ((f : ℕ) → 1 ≤ f → f ≤ 65 → x ≡ 1000 + f → ⊥)
       → times x (codesFound (allFlags c)) ≡ 0
   unfolding codes
   none-other x no-rule no-form =
-      let of-rules : times x ruleCodes ≡ 0 = ap (times x) (sym rules-in-order) ∙ none-mapped x (λ (r : Rule). r .code) rules no-rule in
+      let of-rules : times x (ruleCodes ++ polishCodes) ≡ 0 =
+      (λ i. times x (sym rules-in-order i ++ sym polish-in-order i)) ∙ none-mapped x codeOf allRules no-rule
+      in
       let of-forms : times x formCodes ≡ 0 =
       ap (times x) form-codes
       ∙ none-mapped x (λ f. 1000 + f) (countFrom 1 65) (λ f m. let (least, most) = counted-among 1 65 f m in no-form f least (omega arith))
       in
-      found-known (allFlags c) flag-count x (omega (arith, times-append x ruleCodes formCodes))
+      found-known (allFlags c) (flag-count c) x
+      (omega (arith, times-append x ruleCodes polishCodes, times-append x ruleCodes (formCodes ++ polishCodes), times-append x formCodes polishCodes))
 
   -- nothing is found where no rule is violated and no cell malformed, and the other way round
   pub nothing-found :
-      ((r : Rule) → Among r rules → given c r ≡ false) → ((f : ℕ) → 1 ≤ f → f ≤ 65 → malformed c f ≡ false)
+      ((r : Rule) → Among r allRules → given c r ≡ false) → ((f : ℕ) → 1 ≤ f → f ≤ 65 → malformed c f ≡ false)
       → length (codesFound (allFlags c)) ≡ 0
-  unfolding allFlags flags formFindings
+  unfolding allFlags flags formFindings polishFlags
   nothing-found no-rule no-form =
-      let of-rules : flagsSet (map (given c) rules) ≡ 0 = none-set (given c) rules no-rule in
+      let of-rules : flagsSet (flags c ++ polishFlags c) ≡ 0 = none-set (given c) allRules no-rule in
       let of-forms : flagsSet (formFindings (c .line)) ≡ 0 =
       none-set (malformed c) (countFrom 1 65) (λ f m. let (least, most) = counted-among 1 65 f m in no-form f least (omega arith))
       in
-      length-pick codes (allFlags c) (code-count ∙ sym flag-count) ∙ omega (arith, set-append (map (given c) rules) (formFindings (c .line)))
+      length-pick codes (allFlags c) (code-count ∙ sym (flag-count c))
+      ∙ omega (arith, set-append (flags c) (polishFlags c), set-append (flags c) (formFindings (c .line) ++ polishFlags c), set-append (formFindings (c .line)) (polishFlags c))
 
-  pub clean-rule : clean c ≡ true → (r : Rule) → Among r rules → given c r ≡ false
+  pub clean-rule : clean c ≡ true → (r : Rule) → Among r allRules → given c r ≡ false
   unfolding times
   clean-rule e r m = bit-none (given c r) (sym (rule-once r m) ∙ ap (times (r .code)) (none-found c e))
 

@@ -23,13 +23,13 @@ use Rattle.forms.specs.declared.tables.Form.{Form}
 use Rattle.forms.specs.declared.tables.Form.the-variants.{Reference, Lei}
 use Rattle.register.proofs.PairLaws.{Shaped}
 use Rattle.facts.specs.Call.{Call}
-use Rattle.facts.specs.Rules.{isNew, isCxl, good, goodCells, flags}
+use Rattle.facts.specs.Rules.{isNew, isCxl, good, goodCells, flags, allFlags}
 use Rattle.verdict.specs.Codes.{codes, ruleCount, codeCount}
 use Rattle.verdict.specs.Verdict.{bit, codesFound}
 use Rattle.verdict.specs.Counted.{times}
 use Rattle.verdict.proofs.OrderLaws.{pick-once}
 use Rattle.verdict.proofs.Promises.{codes-rise, code-count}
-use Rattle.judge.specs.Refusal.{allFlags, clean}
+use Rattle.judge.specs.Refusal.{clean}
 
 shape-length : (pattern s : List ℕ) → shape pattern s ≡ true → length s ≡ length pattern
 unfolding shape

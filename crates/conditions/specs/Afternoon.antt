@@ -1,6 +1,7 @@
 -- One afternoon of a firm, with a register that has room for one pair.
 use Prim.Native.Nat.{ℕ}
 use mathlib.Core.Path.{_≡_}
+use mathlib.Core.Bool.{false}
 use mathlib.Core.List.{List, [], _∷_, _++_}
 use lib.ListN.{replicate}
 use Rattle.text.specs.Ascii.{ascii}
@@ -28,10 +29,10 @@ cancels = ascii "CXL|TRADE1||00000000000000000098||00000000000000000098|||||||||
 abbrev pub other : List ℕ
 other = ascii "NEW|TRADE2||00000000000000000098|TRUE|00000000000000000098|LEI:00000000000000000098|||||||||INTC|||||||||FALSE|||2024-05-06T10:00:00Z|AOTC|UNT:5|||PNDG|||XOFF|||||||||||||||||||||||NORE||||||FALSE"
 
--- a call at noon of 6 May 2024
+-- a call at noon of 6 May 2024, Polish identifiers not asked for
 abbrev pub at : List ℕ → List ℕ → Call
 at line register =
-    call line lei (ascii "CTY" ++ noRows) (ascii "CCY" ++ noRows) (ascii "VEN" ++ noRows) (ascii "INS" ++ noRows) register 20240506 43200000000
+    call line lei (ascii "CTY" ++ noRows) (ascii "CCY" ++ noRows) (ascii "VEN" ++ noRows) (ascii "INS" ++ noRows) register 20240506 43200000000 false
 
 -- a register with room for one row: not used, the pair live, the pair cancelled
 abbrev pub none : List ℕ

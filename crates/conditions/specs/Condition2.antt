@@ -11,7 +11,7 @@ use Rattle.cells.specs.Cells.{cell}
 use Rattle.forms.specs.Findings.{statusOf, formFinding}
 use Rattle.register.specs.declared.rows.Standing.the-variants.{Live, Cancelled}
 use Rattle.facts.specs.Call.{Call}
-use Rattle.facts.specs.Rules.{Rule, rules, given, isNew, pairStands}
+use Rattle.facts.specs.Rules.{Rule, allRules, given, isNew, pairStands}
 use Rattle.verdict.specs.declared.Verdict.{Verdict}
 use Rattle.verdict.specs.Codes.{codes, codeCount}
 use Rattle.verdict.specs.Verdict.{bit}
@@ -44,11 +44,11 @@ pub record NotRefused (call : Call) (before : List ℕ) (verdict : Verdict) (fin
   -- the codes rise
   pub rise : risingOver 0 (listed verdict findings) ≡ true
   -- each rule's code stands there once if the rule is violated, and else not at all; the same for 1000 + f and the form of cell f
-  pub by-rule : (r : Rule) → Among r rules → times (r .code) (listed verdict findings) ≡ bit (given call r)
+  pub by-rule : (r : Rule) → Among r allRules → times (r .code) (listed verdict findings) ≡ bit (given call r)
   pub by-form : (f : ℕ) → 1 ≤ f → f ≤ 65 → times (1000 + f) (listed verdict findings) ≡ bit (malformed call f)
   -- no other number stands there
   pub no-other :
-      (x : ℕ) → ((r : Rule) → Among r rules → x ≡ r .code → ⊥) → ((f : ℕ) → 1 ≤ f → f ≤ 65 → x ≡ 1000 + f → ⊥)
+      (x : ℕ) → ((r : Rule) → Among r allRules → x ≡ r .code → ⊥) → ((f : ℕ) → 1 ≤ f → f ≤ 65 → x ≡ 1000 + f → ⊥)
       → times x (listed verdict findings) ≡ 0
   -- with n = 0 the line's pair is set live by NEW and cancelled by CXL; with n > 0 the register stays
   pub sets-pair : verdict .count ≡ 0 → left ≡ written (call .line) (call .register)
@@ -59,5 +59,5 @@ pub record Condition2 (call : Call) (before : List ℕ) (verdict : Verdict) (fin
   pub not-refused : verdict .answer ≡ 0 → NotRefused call before verdict findings left
   -- a line that 1 to 10 do not refuse, that violates no rule and has no malformed cell
   pub without-findings :
-      reached call (length before) ≡ true → ((r : Rule) → Among r rules → given call r ≡ false)
+      reached call (length before) ≡ true → ((r : Rule) → Among r allRules → given call r ≡ false)
       → ((f : ℕ) → 1 ≤ f → f ≤ 65 → malformed call f ≡ false) → (accepted verdict ≡ true) ⊎ (verdict .answer ≡ 11)
