@@ -13,7 +13,8 @@ use Rattle.verdict.specs.Verdict.{verdictOf, refusedBy}
 use Rattle.verdict.specs.Codes.{codes, codeCount}
 use Rattle.verdict.proofs.ListLaws.{pick-short}
 use Rattle.verdict.proofs.Promises.{code-count}
-use Rattle.judge.specs.Refusal.{allFlags, refusal}
+use Rattle.facts.specs.Rules.{allFlags}
+use Rattle.judge.specs.Refusal.{refusal}
 use Rattle.judge.specs.Outcome.{Outcome, outcome, Judged, judgedOutcome, refusedOutcome}
 use Rattle.buffer.specs.Kept.{Kept}
 use Rattle.buffer.proofs.KeptLaws.{keep-front, keep-then}

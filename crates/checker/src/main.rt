@@ -51,6 +51,7 @@ fn answer(line: &[u8], register: &mut [u8], number: u64, out: &mut [u8]) -> usiz
         register,
         20250322,
         43200000000,
+        false,
         &mut findings,
     );
     let count = verdict.count;
