@@ -52,10 +52,11 @@ fn result(
     register: &mut [u8],
     day: u32,
     micro: u64,
+    polish: bool,
     findings: &mut [u16],
     out: &mut [u8],
 ) -> usize
-    ensures { λ r. ⌜ Resulted (outcome (call (now (line .entry)) (now (lei .entry)) (now (cty .entry)) (now (ccy .entry)) (now (ven .entry)) (now (ins .entry)) (now (register .entry)) day micro) (length (now (findings .entry)))) (now (findings .entry)) (now (findings .exit)) (now (register .entry)) (now (register .exit)) (now (out .entry)) (now (out .exit)) r ⌝ }
+    ensures { λ r. ⌜ Resulted (outcome (call (now (line .entry)) (now (lei .entry)) (now (cty .entry)) (now (ccy .entry)) (now (ven .entry)) (now (ins .entry)) (now (register .entry)) day micro polish) (length (now (findings .entry)))) (now (findings .entry)) (now (findings .exit)) (now (register .entry)) (now (register .exit)) (now (out .entry)) (now (out .exit)) r ⌝ }
 {
     let verdict = judge::judge(
         line,
@@ -67,13 +68,14 @@ fn result(
         register,
         day,
         micro,
+        polish,
         findings,
     );
     keep_result(out, verdict, findings, register)
 }
 
-// The moment is the day and the microsecond, of 4 and 8 bytes. What is expected of a case takes as many bytes as its
-// result: it is read over that, and dropped.
+// The moment is the day and the microsecond, of 4 and 8 bytes; the 4 behind it say whether Polish identifiers are judged: where they are not 0.
+// What is expected of a case takes as many bytes as its result: it is read over that, and dropped.
 fn report(
     line: &[u8],
     lists: &[u8],
@@ -93,6 +95,7 @@ fn report(
         register,
         text::le32(moment, 0),
         le64(moment, 4),
+        text::le32(moment, 12) != 0,
         findings,
         &mut out,
     );
@@ -102,14 +105,14 @@ fn report(
     read_part(&mut out, n)
 }
 
-// A case from its moment on: 12 bytes, and 4 of how many entries the findings buffer has.
+// A case from its moment on: 12 bytes, 4 for Polish identifiers, and 4 of how many entries the findings buffer has.
 fn take_findings(line: &[u8], lists: &[u8], lengths: &[usize; 5], register: &mut [u8]) -> bool {
-    let mut moment = [0u8; 16];
+    let mut moment = [0u8; 20];
     let mut bytes = [0u8; 2 * ENTRIES];
-    if !read_part(&mut moment, 16) {
+    if !read_part(&mut moment, 20) {
         return false;
     }
-    let n = text::le32(&moment, 12) as usize;
+    let n = text::le32(&moment, 16) as usize;
     if !read_part(&mut bytes, 2 * n) {
         return false;
     }
@@ -197,8 +200,8 @@ fn main() {
     if !read_part(&mut head, 12) {
         return;
     }
-    if !text::starts_with(&head, b"CASE\x01\x00\x00\x00") {
-        fault(b"replay: this is no file of cases of version 1\n");
+    if !text::starts_with(&head, b"CASE\x02\x00\x00\x00") {
+        fault(b"replay: this is no file of cases of version 2\n");
         return;
     }
     let mut lists = [0u8; LISTS];
