@@ -16,8 +16,10 @@
 extern "C" {
 #endif
 
-/* 73 rules and 65 forms of cells: the entries that a findings buffer must have, and the bits in use of `words`. */
-#define BOANHETRI_CODES 138
+/* 73 rules and 65 forms of cells, and with the 3 rules for Polish identifiers all codes: the entries that a findings buffer
+   must have where `polish` is 0, and where it is not. */
+#define BOANHETRI_BASE_CODES 138
+#define BOANHETRI_CODES 141
 
 /* `answer`: why a call was refused, or that the line was judged. They are checked in this order, and the first that
    applies is the answer. */
@@ -33,7 +35,7 @@ enum boanhetri_answer {
     BOANHETRI_REGISTER = 6,
     /* `day` is no real date in 1900 to 9999, or `micro` is over 86399999999. */
     BOANHETRI_MOMENT = 7,
-    /* The findings buffer has under 138 entries. */
+    /* The findings buffer has under 138 entries, or under 141 where `polish` is not 0. */
     BOANHETRI_FINDINGS = 8,
     /* The line is over 4096 bytes long. */
     BOANHETRI_LINE_LENGTH = 9,
@@ -50,8 +52,8 @@ struct boanhetri_verdict {
     uint16_t answer;
     /* How many findings the line has. 0 with answer 0: the line is accepted. */
     uint16_t count;
-    /* One bit for each of the 138 codes in rising order, from the lowest bit of words[0] on: 023 is the lowest bit of
-       words[0], 1065 is bit 9 of words[2]. `count` is how many are set. */
+    /* One bit for each of the 141 codes in rising order, from the lowest bit of words[0] on: 023 is the lowest bit of
+       words[0], 1065 is bit 9 and 3309 bit 12 of words[2]. `count` is how many are set. */
     uint64_t words[3];
 };
 
@@ -72,7 +74,9 @@ struct boanhetri_verdict {
  *             9 bytes of head. To begin with, set the head with 0 rows used; the bytes behind it may hold anything.
  *   day       the day of submission, as the number yyyymmdd
  *   micro     the microsecond of that day, 0 to 86399999999
- *   findings  room for at least 138 codes
+ *   polish    whether Polish identifiers are judged, 3307 to 3309: 0 if not, and any other number if they are. Nothing else
+ *             that is found of a line depends on it.
+ *   findings  room for at least 138 codes, or 141 where `polish` is not 0
  *
  * What a call leaves, with answer 0:
  *   findings  the first `count` entries are the codes found, rising, each once; later entries stay as they were.
@@ -102,6 +106,7 @@ struct boanhetri_verdict boanhetri_judge(
     uint8_t *reg, size_t reg_len,
     uint32_t day,
     uint64_t micro,
+    uint32_t polish,
     uint16_t *findings, size_t findings_len);
 
 #ifdef __cplusplus

@@ -34,6 +34,7 @@ struct call {
     struct bytes reg;
     uint32_t day;
     uint64_t micro;
+    uint32_t polish;
     uint16_t findings[BOANHETRI_CODES + 3];
     size_t room;
 };
@@ -108,12 +109,19 @@ static void line_of(struct call *c, const char *const cells[66]) {
     }
 }
 
-static void new_line(struct call *c, const char *reference) {
-    const char *const cells[66] = {
+/* The cells of a NEW line that is accepted. */
+static void good_cells(const char *cells[66], const char *reference) {
+    const char *const good[66] = {
         [1] = "NEW", [2] = reference, [4] = ENTITY, [5] = "TRUE", [6] = ENTITY, [7] = "LEI:" ENTITY, [16] = "LEI:" OTHER,
         [25] = "FALSE", [28] = "2025-03-21T09:30:00.5Z", [29] = "DEAL", [30] = "UNT:100", [33] = "MV:10.5", [34] = "EUR",
         [36] = "XAAA", [37] = "DE", [41] = "AA0000000006", [57] = "NIDN:DE123", [59] = "NORE", [65] = "FALSE",
     };
+    memcpy(cells, good, sizeof good);
+}
+
+static void new_line(struct call *c, const char *reference) {
+    const char *cells[66];
+    good_cells(cells, reference);
     line_of(c, cells);
 }
 
@@ -154,6 +162,7 @@ static struct call good_call(void) {
     new_line(&c, "R1");
     c.day = 20250322;
     c.micro = 43200000000;
+    c.polish = 0;
     memset(c.findings, 0x5A, sizeof c.findings);
     c.room = BOANHETRI_CODES + 3;
     return c;
@@ -181,6 +190,7 @@ static struct boanhetri_verdict judge(struct call *c) {
         c->reg.at, c->reg.len,
         c->day,
         c->micro,
+        c->polish,
         c->findings, c->room);
 }
 
@@ -335,7 +345,7 @@ static void lists_are_framed(void) {
         c.list[i].len = 10;
         must_refuse(c, i + 1, group);
         c.list[i].len = 9;
-        c.room = BOANHETRI_CODES - 1;
+        c.room = BOANHETRI_BASE_CODES - 1;
         must_refuse(c, 8, group);
     }
     printf("%s\n", group);
@@ -387,7 +397,7 @@ static void moment_is_real(void) {
         struct call c = good_call();
         c.day = real[i];
         c.micro = 86399999999;
-        c.room = BOANHETRI_CODES - 1;
+        c.room = BOANHETRI_BASE_CODES - 1;
         must_refuse(c, 8, group);
         c.micro = 86400000000;
         must_refuse(c, 7, group);
@@ -398,16 +408,66 @@ static void moment_is_real(void) {
 }
 
 static void buffer_has_room(void) {
-    const char *group = "refusal 8: an entry too few; 138 are enough";
+    const char *group = "refusal 8: an entry too few; 138 are enough, or 141 with Polish identifiers";
+    for (uint32_t polish = 0; polish < 2; polish++) {
+        struct call c = good_call();
+        struct bytes reg = c.reg;
+        expect_row(&reg, "R1");
+        c.polish = polish;
+        c.room = 0;
+        must_refuse(c, 8, group);
+        c.room = polish ? 140 : 137;
+        must_refuse(c, 8, group);
+        c.room++;
+        must_accept(&c, &reg, group);
+    }
+    printf("%s\n", group);
+}
+
+/* A call with numbers in 57 and 59, whose country no rule looks for. */
+static struct call polish_call(uint32_t polish, const char *investor, const char *executor) {
     struct call c = good_call();
+    const char *cells[66];
+    good_cells(cells, "R1");
+    cells[57] = investor;
+    cells[59] = executor;
+    line_of(&c, cells);
+    c.polish = polish;
+    return c;
+}
+
+/* A buyer who is born on another day than 11 says. PL is in no list here, which is 071. */
+static struct call born_call(uint32_t polish) {
+    struct call c = good_call();
+    const char *cells[66];
+    good_cells(cells, "R1");
+    cells[7] = "NIDN:PL44051401359";
+    cells[11] = "1944-05-15";
+    cells[29] = "AOTC";
+    line_of(&c, cells);
+    c.polish = polish;
+    return c;
+}
+
+static void polish_identifiers(void) {
+    const char *group = "Polish identifiers: bits 138 to 140, for every number but 0";
+    static const uint32_t asking[] = {1, 2, 256, 65536, 2147483648, 4294967295};
+    static const struct finding numbers[2] = {{3307, 138}, {3308, 139}};
+    static const struct finding birth[2] = {{71, 8}, {3309, 140}};
+    struct call c = polish_call(0, "NIDN:PL44051401358", "NIDN:PL123456789");
     struct bytes reg = c.reg;
     expect_row(&reg, "R1");
-    c.room = 0;
-    must_refuse(c, 8, group);
-    c.room = 137;
-    must_refuse(c, 8, group);
-    c.room = 138;
     must_accept(&c, &reg, group);
+    c = born_call(0);
+    must_find(&c, birth, 1, group);
+    for (size_t i = 0; i < sizeof asking / sizeof asking[0]; i++) {
+        c = polish_call(asking[i], "NIDN:PL44051401359", "NIDN:PL1234563218");
+        must_accept(&c, &reg, group);
+        c = polish_call(asking[i], "NIDN:PL44051401358", "NIDN:PL123456789");
+        must_find(&c, numbers, 2, group);
+        c = born_call(asking[i]);
+        must_find(&c, birth, 2, group);
+    }
     printf("%s\n", group);
 }
 
@@ -450,7 +510,7 @@ static void refusals_have_an_order(void) {
     }
     c.reg.len = 8;
     c.day = 20250229;
-    c.room = BOANHETRI_CODES - 1;
+    c.room = BOANHETRI_BASE_CODES - 1;
     memset(c.line.at, 'x', sizeof c.line.at);
     c.line.len = 4097;
     for (uint16_t i = 0; i < LISTS; i++) {
@@ -493,6 +553,7 @@ int main(void) {
     register_is_framed();
     moment_is_real();
     buffer_has_room();
+    polish_identifiers();
     line_is_short();
     cells_are_65();
     refusals_have_an_order();

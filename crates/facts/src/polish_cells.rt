@@ -102,11 +102,7 @@ pub fn polish_facts<'a, 't>(
     ensures { λ r. ⌜ r ≡ polishFacts asked (now (line .entry)) ⌝ }
 {
     if !asked {
-        return Polish {
-            form: false,
-            check: false,
-            birth: false,
-        };
+        return polish::nothing();
     }
     let parties = with_dates(line, starts, ends, read, ok);
     let traders = without_dates(line, starts, ends, read, ok);

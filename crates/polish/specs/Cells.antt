@@ -1,6 +1,6 @@
 -- What a cell gives of 3307, 3308 and 3309, by the party that was read of it.
 use Prim.Native.Nat.{ℕ}
-use mathlib.Core.Bool.{Bool, not, _&&_, _||_}
+use mathlib.Core.Bool.{Bool, false, not, _&&_, _||_}
 use mathlib.Core.List.{List}
 use lib.Dec.{eqb}
 use lib.ListN.{drop}
@@ -31,6 +31,10 @@ checkWrong n = (isPesel n && not (peselRight n)) || (isNip n && not (nipRight n)
 -- 3309: a PESEL whose birth day is no real day, or another than that of the date cell, where that is present
 unfoldable pub birthWrong : List ℕ → Bool → ℕ → Bool
 birthWrong n dated day = isPesel n && (not (isBirth n) || (dated && not (eqb (birthDay n) day)))
+
+-- none of the three
+abbrev pub nothing : Polish
+nothing = record { form = false; check = false; birth = false }
 
 -- the three of a number; `dated` says that the date cell is present, which writes `day`
 unfoldable pub numberGives : List ℕ → Bool → ℕ → Polish

@@ -8,7 +8,7 @@ use borrow.Author.Needs.{needs}
 
 returns : tie.Need-returns
 unfolding polishFacts
-returns c = ap (λ (asked : Bool). polishFacts asked ((c .before .before .args) .line .now)) (sym (not-true ((c .before .before .args) .asked) ((c .if1) .taken)))
+returns c = (c .nothing) .ensures ∙ ap (λ (asked : Bool). polishFacts asked ((c .before .before .before .args) .line .now)) (sym (not-true ((c .before .before .before .args) .asked) ((c .before .if1) .taken)))
 
 returns-2 : tie.Need-returns-2
 unfolding polishFacts polishDated polishUndated
@@ -22,6 +22,7 @@ pub polish-facts-spec : {M : Type 1} → statement M
 polish-facts-spec =
     tie.close
     (tie.spec
+    (λ c κs. search needs)
     returns
     (λ c κs. search needs)
     (λ c κs. search needs)
