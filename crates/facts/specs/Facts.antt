@@ -9,6 +9,7 @@ use Rattle.cells.specs.Cells.{cell}
 use Rattle.calendar.specs.declared.dates.Date.{Date}
 use Rattle.calendar.specs.declared.moments.Moment.{Moment}
 use Rattle.baskets.specs.declared.underlying.Underlying.{Underlying}
+use Rattle.polish.specs.Cells.{formWrong, checkWrong, bornWrong}
 use Rattle.polish.specs.declared.cells.Polish.{Polish}
 use Rattle.amount.specs.Price.{priceKind}
 use Rattle.amount.specs.Quantity.{quantityKind}
@@ -40,9 +41,9 @@ use Rattle.facts.specs.declared.trades.TradeFacts.{TradeFacts}
 use Rattle.facts.specs.declared.lines.DealFacts.{DealFacts}
 use Rattle.facts.specs.declared.lines.Facts.{Facts}
 use Rattle.facts.specs.Call.{Call}
-use Rattle.facts.specs.Words.{present, says, off, momentIn, momentOf, dayIn, isLive, noMoney, partyLeiWrong, partyCountryWrong, partyMicWrong, partyShapeWrong, birthWrong, isLate, isPast, isEntity, secondCurrency, isinWrong, notBefore, tooOld, polishFormWrong, polishCheckWrong, polishBirthWrong}
+use Rattle.facts.specs.Words.{present, says, off, momentIn, momentOf, dayIn, isLive, noMoney, partyLeiWrong, partyCountryWrong, partyMicWrong, partyShapeWrong, birthWrong, isLate, isPast, isEntity, secondCurrency, isinWrong, notBefore, tooOld}
 use Rattle.facts.specs.Asked.{askedOf}
-use Rattle.facts.specs.Rules.{goodCells, at, T, standingOf, holdings, someParty, someTrader, someCell, someBirth}
+use Rattle.facts.specs.Rules.{goodCells, at, T, standingOf, holdings, someParty, someTrader, someCell, someDated}
 
 -- Over what was read of the line and what was asked of the lists
 
@@ -168,18 +169,14 @@ factsFrom line read asked standing day micro =
 
 -- 3307 to 3309 of the parties with a date; of 57 and 59; and of all, where the call asks for them
 unfoldable pub polishDated : List ℕ → Polish
-polishDated line = record { form = someParty polishFormWrong line; check = someParty polishCheckWrong line; birth = someBirth polishBirthWrong line }
+polishDated line = record { form = someParty formWrong line; check = someParty checkWrong line; birth = someDated bornWrong line }
 
 unfoldable pub polishUndated : List ℕ → Polish
-polishUndated line = record { form = someTrader polishFormWrong line; check = someTrader polishCheckWrong line; birth = false }
+polishUndated line = record { form = someTrader formWrong line; check = someTrader checkWrong line; birth = false }
 
 unfoldable pub polishFacts : Bool → List ℕ → Polish
 polishFacts asked line =
-    record {
-      form = asked && someCell polishFormWrong line;
-      check = asked && someCell polishCheckWrong line;
-      birth = asked && someBirth polishBirthWrong line;
-    }
+    record { form = asked && someCell formWrong line; check = asked && someCell checkWrong line; birth = asked && someDated bornWrong line }
 
 -- In the words of the rules, which read every cell for themselves and do not say that a list is read only for the kind that it is of
 

@@ -10,15 +10,17 @@ use Rattle.cells.specs.Cells.{cell}
 use Rattle.forms.specs.declared.findings.Status.the-variants.{New, Cancellation}
 use Rattle.forms.specs.Forms.{statusWord}
 use Rattle.forms.specs.Findings.{formFindings}
-use Rattle.ident.specs.Party.{allowed7, allowed12, allowed57, allowed59}
+use Rattle.ident.specs.Party.{allowed7, allowed12, allowed57, allowed59, partyOf}
 use Rattle.ident.specs.declared.parties.Allowed.{Allowed}
+use Rattle.ident.specs.declared.parties.Party.{Party}
+use Rattle.polish.specs.Cells.{formWrong, checkWrong, bornWrong}
 use Rattle.lists.specs.Lookups.{instrumentRows, someViolates}
 use Rattle.register.specs.Pair.{pairBytes}
 use Rattle.register.specs.Rows.{standing}
 use Rattle.register.specs.declared.rows.Standing.{Standing}
 use Rattle.cfi.specs.Rules.{violated}
 use Rattle.facts.specs.Call.{Call}
-use Rattle.facts.specs.Words.{present, says, off, momentOf, isLive, isAbsent, isCancelled, leiGoodUnlapsed, leiGood, leiWrong, countryWrong, kind1, kind2, kind3, partyLeiWrong, partyCountryWrong, partyMicWrong, partyShapeWrong, birthWrong, isLate, isPast, isEntity, currencyWrong, quantityCurrencyWrong, secondCurrency, isinWrong, notBefore, tooOld, heldAtAll, heldWord, heldQuantity, heldPrice, heldSwap, polishFormWrong, polishCheckWrong, polishBirthWrong}
+use Rattle.facts.specs.Words.{present, says, off, momentOf, dayOf, isLive, isAbsent, isCancelled, leiGoodUnlapsed, leiGood, leiWrong, countryWrong, kind1, kind2, kind3, partyLeiWrong, partyCountryWrong, partyMicWrong, partyShapeWrong, birthWrong, isLate, isPast, isEntity, currencyWrong, quantityCurrencyWrong, secondCurrency, isinWrong, notBefore, tooOld, heldAtAll, heldWord, heldQuantity, heldPrice, heldSwap}
 
 -- for which lines a rule is judged
 pub data When : Type 0 where
@@ -226,37 +228,34 @@ rules6 =
 abbrev pub rules : List Rule
 rules = rules1 ++ (rules2 ++ (rules3 ++ (rules4 ++ (rules5 ++ rules6))))
 
--- 3307 to 3309 judge each cell by itself: one with a form finding gives none of them, and one in its date cell rules out 3309
-abbrev pub alone : List ℕ → ℕ → (List ℕ → Bool) → Bool
-alone line f wrong = good line f && wrong (cell line f)
+-- 3307 to 3309 judge the party in each cell by itself: a form finding in the cell rules out all three, and one in its date cell 3309
+abbrev pub alone : List ℕ → ℕ → Allowed → (Party → List ℕ → Bool) → Bool
+alone line f allowed wrong = good line f && wrong (partyOf allowed (cell line f)) (cell line f)
 
-abbrev pub withDate : List ℕ → ℕ → ℕ → (List ℕ → List ℕ → Bool) → Bool
-withDate line f d wrong = good line f && good line d && wrong (cell line f) (cell line d)
+abbrev pub withDate : List ℕ → ℕ → ℕ → Allowed → (Party → List ℕ → Bool → ℕ → Bool) → Bool
+withDate line f d allowed wrong = good line f && good line d && wrong (partyOf allowed (cell line f)) (cell line f) (present (cell line d)) (dayOf (cell line d))
 
 -- some cell is wrong: of the parties with a date; of 57 and 59, which have none; of all six
-abbrev pub someParty : (Allowed → List ℕ → Bool) → List ℕ → Bool
-someParty wrong line = alone line 7 (wrong allowed7) || alone line 12 (wrong allowed12) || alone line 16 (wrong allowed7) || alone line 21 (wrong allowed12)
+abbrev pub someParty : (Party → List ℕ → Bool) → List ℕ → Bool
+someParty wrong line = alone line 7 allowed7 wrong || alone line 12 allowed12 wrong || alone line 16 allowed7 wrong || alone line 21 allowed12 wrong
 
-abbrev pub someTrader : (Allowed → List ℕ → Bool) → List ℕ → Bool
-someTrader wrong line = alone line 57 (wrong allowed57) || alone line 59 (wrong allowed59)
+abbrev pub someTrader : (Party → List ℕ → Bool) → List ℕ → Bool
+someTrader wrong line = alone line 57 allowed57 wrong || alone line 59 allowed59 wrong
 
-abbrev pub someCell : (Allowed → List ℕ → Bool) → List ℕ → Bool
+abbrev pub someCell : (Party → List ℕ → Bool) → List ℕ → Bool
 someCell wrong line = someParty wrong line || someTrader wrong line
 
--- some party's birth day is
-abbrev pub someBirth : (Allowed → List ℕ → List ℕ → Bool) → List ℕ → Bool
-someBirth wrong line =
-    withDate line 7 11 (wrong allowed7)
-    || withDate line 12 15 (wrong allowed12)
-    || withDate line 16 20 (wrong allowed7)
-    || withDate line 21 24 (wrong allowed12)
+-- some party is, with its date
+abbrev pub someDated : (Party → List ℕ → Bool → ℕ → Bool) → List ℕ → Bool
+someDated wrong line =
+    withDate line 7 11 allowed7 wrong || withDate line 12 15 allowed12 wrong || withDate line 16 20 allowed7 wrong || withDate line 21 24 allowed12 wrong
 
 -- the rules for Polish identifiers, where the call asks for them
 abbrev pub polishRules : List Rule
 polishRules =
-    rule 3307 OnNew [] (λ c. c .polish && someCell polishFormWrong (c .line))
-    ∷ rule 3308 OnNew [] (λ c. c .polish && someCell polishCheckWrong (c .line))
-    ∷ rule 3309 OnNew [] (λ c. c .polish && someBirth polishBirthWrong (c .line))
+    rule 3307 OnNew [] (λ c. c .polish && someCell formWrong (c .line))
+    ∷ rule 3308 OnNew [] (λ c. c .polish && someCell checkWrong (c .line))
+    ∷ rule 3309 OnNew [] (λ c. c .polish && someDated bornWrong (c .line))
     ∷ []
 
 abbrev pub allRules : List Rule

@@ -20,7 +20,6 @@ use Rattle.ident.specs.Person.{countryOf, concatDay}
 use Rattle.ident.specs.Party.{partyOf, partOf, isLei, isMic, isConcat, isPerson}
 use Rattle.ident.specs.declared.parties.Allowed.{Allowed}
 use Rattle.ident.specs.declared.parties.Identifier.{Identifier}
-use Rattle.polish.specs.Cells.{isPolish, numberOf, formWrong, checkWrong, birthWrong as bornWrong}
 use Rattle.baskets.specs.Items.{allRight}
 use Rattle.baskets.specs.Underlying.{isinsIn, underlyingOf}
 use Rattle.baskets.specs.declared.items.Holds.the-variants.{Isin}
@@ -196,15 +195,3 @@ swapHeld s underlying name = cond (blank s) 1 (kindHeld (underlying .kind) (not 
 
 unfoldable pub heldSwap : List ℕ → List ℕ → ℕ
 heldSwap s name = swapHeld s (underlyingOf s) name
-
--- 3307: a Polish identifier that is neither 11 nor 10 digits
-unfoldable pub polishFormWrong : Allowed → List ℕ → Bool
-polishFormWrong allowed s = isPolish (partyOf allowed s) s && formWrong (numberOf (partyOf allowed s) s)
-
--- 3308: one whose check digit is wrong
-unfoldable pub polishCheckWrong : Allowed → List ℕ → Bool
-polishCheckWrong allowed s = isPolish (partyOf allowed s) s && checkWrong (numberOf (partyOf allowed s) s)
-
--- 3309: one that names no real day, or another than the date, where that is present
-unfoldable pub polishBirthWrong : Allowed → List ℕ → List ℕ → Bool
-polishBirthWrong allowed s date = isPolish (partyOf allowed s) s && bornWrong (numberOf (partyOf allowed s) s) (present date) (dayOf date)

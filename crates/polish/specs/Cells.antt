@@ -20,31 +20,33 @@ isPolish party s = isNidn (party .identifier) && party .shaped && startsWith (as
 abbrev pub numberOf : Party → List ℕ → List ℕ
 numberOf party s = drop 2 (partOf (party .identifier) s)
 
--- 3307: neither 11 nor 10 digits
-unfoldable pub formWrong : List ℕ → Bool
-formWrong n = not (isPesel n || isNip n)
+-- of that: neither 11 nor 10 digits; the check digit is wrong; a PESEL whose birth day is no real day, or another than that of the date cell,
+-- where that is present (`dated`) and writes `day`
+unfoldable pub neither : List ℕ → Bool
+neither n = not (isPesel n || isNip n)
 
--- 3308: the check digit is wrong
-unfoldable pub checkWrong : List ℕ → Bool
-checkWrong n = (isPesel n && not (peselRight n)) || (isNip n && not (nipRight n))
+unfoldable pub wrongDigit : List ℕ → Bool
+wrongDigit n = (isPesel n && not (peselRight n)) || (isNip n && not (nipRight n))
 
--- 3309: a PESEL whose birth day is no real day, or another than that of the date cell, where that is present
-unfoldable pub birthWrong : List ℕ → Bool → ℕ → Bool
-birthWrong n dated day = isPesel n && (not (isBirth n) || (dated && not (eqb (birthDay n) day)))
+unfoldable pub otherDay : List ℕ → Bool → ℕ → Bool
+otherDay n dated day = isPesel n && (not (isBirth n) || (dated && not (eqb (birthDay n) day)))
 
--- none of the three
+-- 3307, 3308 and 3309 of a cell, by its party
+unfoldable pub formWrong : Party → List ℕ → Bool
+formWrong party s = isPolish party s && neither (numberOf party s)
+
+unfoldable pub checkWrong : Party → List ℕ → Bool
+checkWrong party s = isPolish party s && wrongDigit (numberOf party s)
+
+unfoldable pub bornWrong : Party → List ℕ → Bool → ℕ → Bool
+bornWrong party s dated day = isPolish party s && otherDay (numberOf party s) dated day
+
+-- the three together: of a number, of a cell, and none
+unfoldable pub numberGives : List ℕ → Bool → ℕ → Polish
+numberGives n dated day = record { form = neither n; check = wrongDigit n; birth = otherDay n dated day }
+
+unfoldable pub polishOf : Party → List ℕ → Bool → ℕ → Polish
+polishOf party s dated day = record { form = formWrong party s; check = checkWrong party s; birth = bornWrong party s dated day }
+
 abbrev pub nothing : Polish
 nothing = record { form = false; check = false; birth = false }
-
--- the three of a number; `dated` says that the date cell is present, which writes `day`
-unfoldable pub numberGives : List ℕ → Bool → ℕ → Polish
-numberGives n dated day = record { form = formWrong n; check = checkWrong n; birth = birthWrong n dated day }
-
--- the three of a cell: one that holds no Polish number gives none
-unfoldable pub polishOf : Party → List ℕ → Bool → ℕ → Polish
-polishOf party s dated day =
-    record {
-      form = isPolish party s && formWrong (numberOf party s);
-      check = isPolish party s && checkWrong (numberOf party s);
-      birth = isPolish party s && birthWrong (numberOf party s) dated day;
-    }

@@ -7,12 +7,12 @@ use lib.ListN.{getD}
 use Rattle.cells.specs.Cells.{cell}
 use Rattle.forms.specs.Read.{readOf}
 use Rattle.polish.specs.Cells.{polishOf}
-use Rattle.facts.specs.Words.{present, dayIn, dayOf, polishFormWrong, polishCheckWrong, polishBirthWrong}
+use Rattle.facts.specs.Words.{present, dayIn, dayOf}
 use Rattle.facts.specs.Facts.{polishDated}
 use borrow.Author.Needs.{needs}
 
 returns : tie.Need-returns
-unfolding polishDated polishFormWrong polishCheckWrong polishBirthWrong polishOf readOf dayOf
+unfolding polishDated polishOf readOf dayOf
 returns c =
     let l = (c .before .before .before .before .before .before .before .before .before .before .before .before .before .before .before .before .before .before .before .before .before .args) .line .now in
     let read = (c .before .before .before .before .before .before .before .before .before .before .before .before .before .before .before .before .before .before .before .before .before .pre) .1 in

@@ -6,12 +6,11 @@ use Prim.Native.Nat.{ℕ}
 use lib.ListN.{getD}
 use Rattle.forms.specs.Read.{readOf}
 use Rattle.polish.specs.Cells.{polishOf}
-use Rattle.facts.specs.Words.{polishFormWrong, polishCheckWrong}
 use Rattle.facts.specs.Facts.{polishUndated}
 use borrow.Author.Needs.{needs}
 
 returns : tie.Need-returns
-unfolding polishUndated polishFormWrong polishCheckWrong polishOf readOf
+unfolding polishUndated polishOf readOf
 returns c =
     let read = (c .before .before .before .before .before .before .before .before .before .before .before .pre) .1 in
     let p57 = (c .before .before .before .before .before .before .polish-of) .ensures ∙ (λ j. polishOf (read j .investor) ((c .before .before .before .before .before .before .before .cell) .ensures j) false 0) in

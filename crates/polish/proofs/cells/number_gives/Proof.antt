@@ -1,12 +1,12 @@
 use mathlib.Core.Bool.{not, _&&_, _||_}
 use lib.Dec.{eqb}
 use borrow.Author.Needs.{needs}
-use Rattle.polish.specs.Cells.{formWrong, checkWrong, birthWrong, numberGives}
+use Rattle.polish.specs.Cells.{neither, wrongDigit, otherDay, numberGives}
 use Rattle.polish.proofs.cells.number_gives.Statement.{statement}
 use Rattle.polish.proofs.cells.number_gives.Tie as tie
 
 returns : tie.Need-returns
-unfolding numberGives formWrong checkWrong birthWrong
+unfolding numberGives neither wrongDigit otherDay
 returns c =
     let pesel = c .before .before .before .before .before .run-of .ensures in
     let nip = c .before .before .before .before .run-of2 .ensures in

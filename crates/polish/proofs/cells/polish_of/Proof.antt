@@ -2,16 +2,16 @@ use mathlib.Core.Path.{_∙_, sym, ap}
 use lib.ListN.{drop}
 use borrow.Author.Needs.{needs}
 use borrow.Author.Tests.{not-true, not-false}
-use Rattle.polish.specs.Cells.{numberGives, polishOf}
+use Rattle.polish.specs.Cells.{formWrong, checkWrong, bornWrong, numberGives, polishOf}
 use Rattle.polish.proofs.cells.polish_of.Statement.{statement}
 use Rattle.polish.proofs.cells.polish_of.Tie as tie
 
 returns : tie.Need-returns
-unfolding polishOf
+unfolding polishOf formWrong checkWrong bornWrong
 returns c = rw (sym ((c .before .before .is-polish) .ensures) ∙ not-true _ ((c .before .if1) .taken)) ((c .nothing) .ensures)
 
 returns-2 : tie.Need-returns-2
-unfolding polishOf numberGives
+unfolding polishOf formWrong checkWrong bornWrong numberGives
 returns-2 c =
     rw (sym (c .before .before .before .before .is-polish .ensures) ∙ not-false _ (c .before .before .before .if1 .left))
     (c .number-gives .ensures ∙ ap (λ n. numberGives n (c .before .before .before .before .before .before .args .dated) (c .before .before .before .before .before .before .args .day)) (c .before .rest .ensures ∙ ap (drop 2) (c .before .before .part-of .ensures)))
