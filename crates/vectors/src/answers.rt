@@ -9,6 +9,7 @@ use crate::lent::of_register;
 use crate::lines::of_cells;
 use crate::lines::of_forms;
 use crate::lines::of_reader;
+use crate::poland::of_polish;
 use crate::reading::UNKNOWN;
 use crate::underlying::of_baskets;
 use crate::values::of_amount;
@@ -32,6 +33,10 @@ fn of_leaves(call: &[u8], input: &[u8]) -> u64 {
         return a;
     }
     let a = of_baskets(call, input);
+    if a != UNKNOWN {
+        return a;
+    }
+    let a = of_polish(call, input);
     if a != UNKNOWN {
         return a;
     }

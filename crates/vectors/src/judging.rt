@@ -105,20 +105,22 @@ fn wide(code: u16) -> u64 {
     code as u64
 }
 
-// An entry of a findings buffer one entry longer than the codes, after they are listed.
+// An entry of a findings buffer one entry longer than the codes, after they are listed by the verdict's words.
 fn entry(flags: &[bool; CODE_COUNT], k: usize) -> u64 {
+    let words = verdict::judged(flags).words;
     let mut findings = [STAYS; CODE_COUNT + 1];
-    verdict::list(flags, &mut findings);
+    verdict::list_by_words(words, &mut findings);
     if k < CODE_COUNT + 1 {
         return wide(findings[k]);
     }
     UNKNOWN
 }
 
-// An entry of one that is too short by one.
+// An entry of one that is too short by one where every flag is set.
 fn short_entry(flags: &[bool; CODE_COUNT], k: usize) -> u64 {
+    let words = verdict::judged(flags).words;
     let mut findings = [STAYS; CODE_COUNT - 1];
-    verdict::list(flags, &mut findings);
+    verdict::list_by_words(words, &mut findings);
     if k < CODE_COUNT - 1 {
         return wide(findings[k]);
     }
@@ -135,17 +137,14 @@ fn refusal(no: u16) -> u64 {
     UNKNOWN
 }
 
-// answer, count, half.H, entry.K, short.K and group.AT.N.H on START.END, the flags that are set; refused on a number.
-pub fn of_verdict(call: &[u8], input: &[u8]) -> u64 {
+// answer, count, half.H, entry.K, short.K and group.AT.N.H on START.END, the flags that are set.
+fn of_flags(call: &[u8], input: &[u8]) -> u64 {
     let flags = set_between(
         number(word(input, 0)) as usize,
         number(word(input, 1)) as usize,
         true,
     );
     let k = number(word(call, 1)) as usize;
-    if text::same(call, b"refused") {
-        return refusal((text::number_in(input) % 65536) as u16);
-    }
     if text::same(call, b"answer") {
         return verdict::judged(&flags).answer as u64;
     }
@@ -166,4 +165,15 @@ pub fn of_verdict(call: &[u8], input: &[u8]) -> u64 {
         return half(&placed, number(word(call, 3)) as usize);
     }
     UNKNOWN
+}
+
+// refused on a number; entries_needed on polish and on base; the calls on flags.
+pub fn of_verdict(call: &[u8], input: &[u8]) -> u64 {
+    if text::same(call, b"refused") {
+        return refusal((text::number_in(input) % 65536) as u16);
+    }
+    if text::same(call, b"entries_needed") {
+        return verdict::entries_needed(text::same(input, b"polish")) as u64;
+    }
+    of_flags(call, input)
 }

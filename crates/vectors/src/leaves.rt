@@ -4,6 +4,7 @@ use crate::reading::UNKNOWN;
 use crate::reading::first_of;
 use crate::reading::number;
 use crate::reading::unhex;
+use crate::reading::word;
 use crate::reading::yes;
 use calendar::Date;
 use calendar::Moment;
@@ -103,10 +104,16 @@ fn moment_of(when: When) -> Moment {
     }
 }
 
-// is_day and five_years_before on a number; date on a cell, 0 where it is malformed; moment_day and moment_micro on a cell.
+// is_day, is_day_of.FIRST.LAST and five_years_before on a number; date on a cell, 0 where it is malformed; moment_day and
+// moment_micro on a cell.
 pub fn of_calendar(call: &[u8], input: &[u8]) -> u64 {
     if text::same(call, b"is_day") {
         return yes(calendar::is_day(number(input)));
+    }
+    if text::starts_with(call, b"is_day_of.") {
+        let first = number(word(call, 1));
+        let last = number(word(call, 2));
+        return yes(calendar::is_day_of(first, last, number(input)));
     }
     if text::same(call, b"five_years_before") {
         return calendar::five_years_before(number(input)) as u64;

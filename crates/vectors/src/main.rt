@@ -5,6 +5,7 @@ mod judging;
 mod leaves;
 mod lent;
 mod lines;
+mod poland;
 mod reading;
 mod underlying;
 mod values;

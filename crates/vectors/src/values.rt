@@ -37,7 +37,7 @@ fn party_number(party: Party) -> u64 {
     kind
 }
 
-fn allowed_in(cell: &[u8]) -> Allowed {
+pub fn allowed_in(cell: &[u8]) -> Allowed {
     if text::same(cell, b"7") {
         return ident::allowed7();
     }
@@ -50,11 +50,15 @@ fn allowed_in(cell: &[u8]) -> Allowed {
     ident::allowed59()
 }
 
-// party.CELL on a cell, and part.CELL: how many bytes are handed on.
+// party.CELL on a cell; nidn.CELL: whether it is a NIDN; part.CELL: how many bytes are handed on.
 fn of_party(call: &[u8], input: &[u8]) -> u64 {
     let party = ident::parse_party(input, allowed_in(word(call, 1)));
     if text::starts_with(call, b"party.") {
         return party_number(party);
+    }
+    if text::starts_with(call, b"nidn.") {
+        let identifier = party.identifier;
+        return yes(ident::is_nidn(identifier));
     }
     if text::starts_with(call, b"part.") {
         let identifier = party.identifier;
