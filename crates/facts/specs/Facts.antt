@@ -167,16 +167,15 @@ factsFrom line read asked standing day micro =
     factsWith (partiesFrom line read (asked .parties) (momentIn (read .moment) .day)) (timeFrom line read day micro)
     (tradeFrom line (asked .venue) (asked .instrument) (holdings line) (read .underlying)) line asked standing
 
--- 3307 to 3309 of the parties with a date; of 57 and 59; and of all, where the call asks for them
+-- 3307 to 3309 of the parties with a date; of 57 and 59; and of all
 unfoldable pub polishDated : List ℕ → Polish
 polishDated line = record { form = someParty formWrong line; check = someParty checkWrong line; birth = someDated bornWrong line }
 
 unfoldable pub polishUndated : List ℕ → Polish
 polishUndated line = record { form = someTrader formWrong line; check = someTrader checkWrong line; birth = false }
 
-unfoldable pub polishFacts : Bool → List ℕ → Polish
-polishFacts asked line =
-    record { form = asked && someCell formWrong line; check = asked && someCell checkWrong line; birth = asked && someDated bornWrong line }
+unfoldable pub polishFacts : List ℕ → Polish
+polishFacts line = record { form = someCell formWrong line; check = someCell checkWrong line; birth = someDated bornWrong line }
 
 -- In the words of the rules, which read every cell for themselves and do not say that a list is read only for the kind that it is of
 

@@ -89,21 +89,17 @@ fn without_dates<'a, 't>(
     }
 }
 
-// 3307, 3308 and 3309 of a line; `ok` tells which cells have no form finding. Where the call does not ask, no cell is looked at.
+// 3307, 3308 and 3309 of a line; `ok` tells which cells have no form finding.
 pub fn polish_facts<'a, 't>(
     line: &'a [u8],
     starts: &'t [usize; 65],
     ends: &'t [usize; 65],
     read: Read,
     ok: [bool; 66],
-    asked: bool,
 ) -> Polish
     requires { ⌜ Tabled (now line) (now starts) (now ends) × (read ≡ readOf (now line)) × (ok ≡ goodCells (now line)) ⌝ }
-    ensures { λ r. ⌜ r ≡ polishFacts asked (now (line .entry)) ⌝ }
+    ensures { λ r. ⌜ r ≡ polishFacts (now (line .entry)) ⌝ }
 {
-    if !asked {
-        return polish::nothing();
-    }
     let parties = with_dates(line, starts, ends, read, ok);
     let traders = without_dates(line, starts, ends, read, ok);
     Polish {

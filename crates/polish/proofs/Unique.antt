@@ -4,8 +4,6 @@ use Rattle.polish.proofs.births.birth_day.Kinds as birth-day-kinds
 use Rattle.polish.proofs.births.birth_day.Reads as birth-day-reads
 use Rattle.polish.proofs.births.is_birth.Kinds as is-birth-kinds
 use Rattle.polish.proofs.births.is_birth.Reads as is-birth-reads
-use Rattle.polish.proofs.cells.nothing.Kinds as nothing-kinds
-use Rattle.polish.proofs.cells.nothing.Reads as nothing-reads
 use Rattle.polish.proofs.cells.polish_of.Kinds as polish-of-kinds
 use Rattle.polish.proofs.cells.polish_of.Reads as polish-of-reads
 use Rattle.polish.proofs.numbers.nip_right.Kinds as nip-right-kinds
@@ -18,9 +16,6 @@ birth-day-determined κs a x y s t = same-both
 
 pub is-birth-determined : Determined is-birth-kinds.ps is-birth-kinds.r is-birth-reads.Post
 is-birth-determined κs a x y s t = same-both
-
-pub nothing-determined : Determined nothing-kinds.ps nothing-kinds.r nothing-reads.Post
-nothing-determined κs a x y s t = same-both
 
 pub polish-of-determined : Determined polish-of-kinds.ps polish-of-kinds.r polish-of-reads.Post
 polish-of-determined κs a x y s t = same-both

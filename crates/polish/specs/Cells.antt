@@ -1,6 +1,6 @@
 -- What a cell gives of 3307, 3308 and 3309, by the party that was read of it.
 use Prim.Native.Nat.{ℕ}
-use mathlib.Core.Bool.{Bool, false, not, _&&_, _||_}
+use mathlib.Core.Bool.{Bool, not, _&&_, _||_}
 use mathlib.Core.List.{List}
 use lib.Dec.{eqb}
 use lib.ListN.{drop}
@@ -41,12 +41,9 @@ checkWrong party s = isPolish party s && wrongDigit (numberOf party s)
 unfoldable pub bornWrong : Party → List ℕ → Bool → ℕ → Bool
 bornWrong party s dated day = isPolish party s && otherDay (numberOf party s) dated day
 
--- the three together: of a number, of a cell, and none
+-- the three together, of a number and of a cell
 unfoldable pub numberGives : List ℕ → Bool → ℕ → Polish
 numberGives n dated day = record { form = neither n; check = wrongDigit n; birth = otherDay n dated day }
 
 unfoldable pub polishOf : Party → List ℕ → Bool → ℕ → Polish
 polishOf party s dated day = record { form = formWrong party s; check = checkWrong party s; birth = bornWrong party s dated day }
-
-abbrev pub nothing : Polish
-nothing = record { form = false; check = false; birth = false }

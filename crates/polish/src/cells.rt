@@ -1,6 +1,6 @@
 // What a cell gives of 3307, 3308 and 3309.
 ghost use mathlib.Core.Path.{_≡_};
-ghost use Rattle.polish.specs.Cells.{nothing, isPolish, numberGives, polishOf};
+ghost use Rattle.polish.specs.Cells.{isPolish, numberGives, polishOf};
 use crate::births::birth_day;
 use crate::births::is_birth;
 use crate::numbers::nip_right;
@@ -13,17 +13,6 @@ pub struct Polish {
     pub form: bool,
     pub check: bool,
     pub birth: bool,
-}
-
-// None of the three.
-pub fn nothing() -> Polish
-    ensures { λ r. ⌜ r ≡ nothing ⌝ }
-{
-    Polish {
-        form: false,
-        check: false,
-        birth: false,
-    }
 }
 
 // A NIDN of the person shape, with country PL.
@@ -53,7 +42,11 @@ pub fn polish_of(party: Party, s: &[u8], dated: bool, day: u32) -> Polish
     ensures { λ r. ⌜ r ≡ polishOf party (now (s .entry)) dated day ⌝ }
 {
     if !is_polish(party, s) {
-        return nothing();
+        return Polish {
+            form: false,
+            check: false,
+            birth: false,
+        };
     }
     let kind = party.identifier;
     number_gives(text::rest(ident::part_of(s, kind), 2), dated, day)

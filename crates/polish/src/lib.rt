@@ -8,7 +8,6 @@ mod numbers;
 pub use births::birth_day;
 pub use births::is_birth;
 pub use cells::Polish;
-pub use cells::nothing;
 pub use cells::polish_of;
 pub use numbers::nip_right;
 pub use numbers::pesel_right;

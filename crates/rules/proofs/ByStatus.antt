@@ -1,16 +1,20 @@
 -- What the rules come to for a line whose status is known.
 use mathlib.Core.Path.{_≡_, _∙_, refl, sym, ap}
 use mathlib.Core.Bool.{Bool, true, false, not, _&&_, _||_}
-use mathlib.Core.List.{List, [], _∷_, map}
+use mathlib.Core.List.{List, [], _∷_, _++_, map}
 use Prim.Native.Nat.{ℕ}
 use lib.ListN.{replicate, set, take}
 use Rattle.cells.specs.Cells.{cell}
+use Rattle.forms.specs.Findings.{formFindings}
 use Rattle.forms.proofs.StatusLaws.{not-both}
 use Rattle.facts.specs.Call.{Call}
 use Rattle.facts.specs.Words.{isAbsent, isCancelled, leiGood}
 use Rattle.facts.specs.Facts.{polishFacts}
-use Rattle.facts.specs.Rules.{When, OnNew, OnCxl, OnBoth, Rule, isNew, isCxl, judged, good, andGood, given, at, standingOf, rules, flags, polishRules, polishFlags}
-use Rattle.verdict.specs.Codes.{ruleCount, codeCount}
+use Rattle.polish.specs.Cells.{formWrong, checkWrong, bornWrong}
+use Rattle.polish.specs.declared.cells.Polish.{Polish}
+use Rattle.facts.specs.Rules.{When, OnNew, OnCxl, OnBoth, Rule, isNew, isCxl, judged, good, andGood, given, at, standingOf, rules, flags, someCell, someDated, polishRules, polishFlags, allFlags}
+use Rattle.verdict.specs.Codes.{ruleCount, baseCount, codeCount}
+use Rattle.verdict.specs.Findings.{put}
 
 -- whether a rule is judged for a line that is NEW or not, and CXL or not
 abbrev pub asked : Bool → Bool → When → Bool
@@ -51,8 +55,24 @@ pub not-polish : (c : Call) → isNew (c .line) ≡ false → false ∷ false �
 unfolding polishFlags
 not-polish c n = sym (with-status c n refl polishRules)
 
--- of a line that is NEW these are its facts
-pub polish-flags : (c : Call) → isNew (c .line) ≡ true
-    → polishFacts (c .polish) (c .line) .form ∷ polishFacts (c .polish) (c .line) .check ∷ polishFacts (c .polish) (c .line) .birth ∷ [] ≡ polishFlags c
-unfolding polishFlags polishFacts
-polish-flags c n = when-new c n polishRules
+-- of a line that is NEW they are its facts, where the call asks for them, and else none
+abbrev pub three : Polish → List Bool
+three p = p .form ∷ p .check ∷ p .birth ∷ []
+
+module _ (c : Call) (new : isNew (c .line) ≡ true) where
+  pub polish-asked : c .polish ≡ true → three (polishFacts (c .line)) ≡ polishFlags c
+  unfolding polishFlags polishFacts
+  polish-asked on =
+      (λ i. (sym on i && someCell formWrong (c .line)) ∷ (sym on i && someCell checkWrong (c .line)) ∷ (sym on i && someDated bornWrong (c .line)) ∷ [])
+      ∙ when-new c new polishRules
+
+  pub polish-unasked : c .polish ≡ false → false ∷ false ∷ false ∷ [] ≡ polishFlags c
+  unfolding polishFlags
+  polish-unasked off =
+      (λ i. (sym off i && someCell formWrong (c .line)) ∷ (sym off i && someCell checkWrong (c .line)) ∷ (sym off i && someDated bornWrong (c .line)) ∷ [])
+      ∙ when-new c new polishRules
+
+-- put behind the rules and the forms they make all flags
+pub polish-put : (c : Call) → put (flags c ++ (formFindings (c .line) ++ (false ∷ false ∷ false ∷ []))) baseCount (polishFlags c) ≡ allFlags c
+unfolding put flags formFindings polishFlags allFlags
+polish-put c = refl

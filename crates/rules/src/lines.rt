@@ -1,16 +1,16 @@
 // The 141 flags of a line: 73 rules, 65 forms, 3 rules for Polish identifiers.
 ghost use mathlib.Core.Path.{_≡_};
 ghost use mathlib.Core.Bool.{Bool, true, false};
-ghost use mathlib.Core.List.{List};
+ghost use mathlib.Core.List.{List, [], _∷_, _++_};
 ghost use Prim.Native.Nat.{ℕ};
 ghost use Rattle.cells.specs.Split.{Tabled};
 ghost use Rattle.cells.specs.Cells.{cell};
 ghost use Rattle.forms.specs.Findings.{formFindings};
 ghost use Rattle.forms.specs.Read.{readOf};
 ghost use Rattle.facts.specs.Call.{Call, call};
-ghost use Rattle.facts.specs.Rules.{isNew, pairStands, allFlags};
+ghost use Rattle.facts.specs.Rules.{isNew, pairStands, flags, allFlags};
 ghost use Rattle.facts.specs.Asked.{leiFit};
-ghost use Rattle.facts.specs.Facts.{askedIn, factsOf, polishFacts};
+ghost use Rattle.facts.specs.Facts.{askedIn, factsOf};
 use crate::early::deciders_and_seller;
 use crate::early::pair_and_buyer;
 use crate::early::seller_and_time;
@@ -21,7 +21,6 @@ use facts::Asked;
 use facts::Facts;
 use facts::LeiFit;
 use forms::Read;
-use polish::Polish;
 use register::Standing;
 use verdict::BASE_COUNT;
 use verdict::CODE_COUNT;
@@ -48,9 +47,9 @@ pub fn unless_new<'a, 't>(
     verdict::place(found, RULE_COUNT, &forms)
 }
 
-// The rules of a line that is NEW, in groups of 12 or 13, then its forms, then the rules for Polish identifiers.
-fn by_facts(forms: &[bool; 65], f: Facts, polish: Polish) -> [bool; CODE_COUNT]
-    ensures { λ r. ⌜ ((c : Call) → isNew (c .line) ≡ true → f ≡ factsOf c → now (forms .entry) ≡ formFindings (c .line) → polish ≡ polishFacts (c .polish) (c .line) → r ≡ allFlags c) ⌝ }
+// The rules of a line that is NEW, in groups of 12 or 13, then its forms; of the rules for Polish identifiers none.
+fn by_facts(forms: &[bool; 65], f: Facts) -> [bool; CODE_COUNT]
+    ensures { λ r. ⌜ ((c : Call) → isNew (c .line) ≡ true → f ≡ factsOf c → now (forms .entry) ≡ formFindings (c .line) → r ≡ flags c ++ (formFindings (c .line) ++ (false ∷ false ∷ false ∷ []))) ⌝ }
 {
     let found = pair_and_buyer([false; CODE_COUNT], f);
     let found = deciders_and_seller(found, f);
@@ -58,16 +57,11 @@ fn by_facts(forms: &[bool; 65], f: Facts, polish: Polish) -> [bool; CODE_COUNT]
     let found = price_and_venue(found, f);
     let found = currencies_and_cfi(found, f);
     let found = cfi_and_dates(found, f);
-    let found = verdict::place(found, RULE_COUNT, forms);
-    verdict::place(
-        found,
-        BASE_COUNT,
-        &[polish.form, polish.check, polish.birth],
-    )
+    verdict::place(found, RULE_COUNT, forms)
 }
 
 // A line that is NEW: its split, what was read of it, what the lists say of it, how its pair stands in the register, the submission moment, and
-// whether Polish identifiers are judged.
+// whether Polish identifiers are judged. Where they are not, no cell is looked at for them.
 pub fn when_new<'a, 't>(
     line: &'a [u8],
     starts: &'t [usize; 65],
@@ -94,7 +88,11 @@ pub fn when_new<'a, 't>(
         day,
         micro,
     );
+    let found = by_facts(&forms, f);
+    if !polish {
+        return found;
+    }
     let ok = f.ok;
-    let identifiers = facts::polish_facts(line, starts, ends, read, ok, polish);
-    by_facts(&forms, f, identifiers)
+    let p = facts::polish_facts(line, starts, ends, read, ok);
+    verdict::place(found, BASE_COUNT, &[p.form, p.check, p.birth])
 }

@@ -2,12 +2,12 @@
 use mathlib.Core.Path.{_≡_, _∙_, sym, refl, ap}
 use mathlib.Core.Bool.{Bool, false}
 use mathlib.Core.List.{List, [], _++_, append-assoc}
-use Prim.Native.Nat.{ℕ, _+_, _≤_, _<_}
+use Prim.Native.Nat.{ℕ, zero, suc, _+_, _-_, _≤_, _<_}
 use native.Mathlib.Numerals.{add-one}
 use native.Mathlib.Omega.{arith}
 use borrow.Author.Tests.{le-leb, lt-leb}
-use lib.ListN.{length, getD, take, drop, set}
-use lib.Seq.{take-all, take-length, length-paste, take-paste, paste, paste-zero, paste-suc}
+use lib.ListN.{length, getD, take, drop, set, replicate, length-append, length-drop, take-append-drop}
+use lib.Seq.{take-length, length-take-le, drop-drop, take-at, drop-at, paste, paste-zero, paste-suc}
 use Rattle.verdict.specs.Codes.{codeCount}
 use Rattle.verdict.specs.Findings.{put}
 
@@ -49,23 +49,41 @@ module _ {flags : List Bool} {start : ℕ} {group placed : List Bool} {i : ℕ} 
   pub placed-end : length group ≤ i → placed ≡ put flags start group
   placed-end h = let e : i ≡ length group = omega arith in so-far .value ∙ rw e (put-within flags start group (so-far .fits))
 
--- the first n flags are `done`
+-- flags that are not set, less some
+fewer-unset : (k n : ℕ) → drop k (replicate n false) ≡ replicate (n - k) false
+fewer-unset zero n = let all : n ≡ n - 0 = omega arith in ap (λ m. replicate m false) all
+fewer-unset (suc k) zero = let none : 0 ≡ 0 - suc k = omega arith in ap (λ m. replicate m false) none
+fewer-unset (suc k) (suc n) = let one-less : n - k ≡ suc n - suc k = omega arith in fewer-unset k n ∙ ap (λ m. replicate m false) one-less
+
+-- the first n flags are `done`, and behind them none is set
 pub record Filled (n : ℕ) (done flags : List Bool) : Type 0 where
   pub long : length flags ≡ codeCount
   pub front : take n flags ≡ done
+  pub behind : drop n flags ≡ replicate (codeCount - n) false
 
-pub filled-none : {flags : List Bool} → length flags ≡ codeCount → Filled 0 [] flags
-filled-none l = record { long = l; front = refl }
+pub filled-none : Filled 0 [] (replicate codeCount false)
+filled-none = record { long = refl; front = refl; behind = refl }
 
 -- a group put behind those that are done
 pub filled-more : {n : ℕ} {done flags placed : List Bool} → Filled n done flags → (group : List Bool) (k : ℕ) → length group ≡ k → n + k ≤ codeCount
     → placed ≡ put flags n group → Filled (n + k) (done ++ group) placed
 filled-more {n} {done} {flags} {placed} filled group k e h p =
-    let q : placed ≡ paste flags n group (length group) = p ∙ sym (put-within flags n group (omega arith)) in
+    let q : placed ≡ (done ++ group) ++ drop (n + k) flags =
+    p ∙ put-amid flags n group e h ∙ sym (append-assoc (take n flags) group (drop (n + k) flags)) ∙ (λ i. (filled .front i ++ group) ++ drop (n + k) flags) in
+    let count : length (done ++ group) ≡ n + k =
+    length-append done group ∙ (λ i. (ap length (sym (filled .front)) ∙ length-take-le n flags (omega (arith, filled .long))) i + e i) in
+    let left : codeCount - n - k ≡ codeCount - (n + k) = omega arith in
     record {
-      long = ap length q ∙ length-paste flags n group (length group) (omega arith) (omega arith) ∙ filled .long;
-      front = rw (q, ← e) (take-paste flags n group (length group) (omega arith) (omega arith) ∙ rw (take-length group, filled .front));
+      long = ap length q ∙ simp (length-append, length-drop) (omega (arith, count, length-append done group, filled .long));
+      front = ap (take (n + k)) q ∙ take-at (done ++ group) (drop (n + k) flags) (n + k) count;
+      behind =
+          ap (drop (n + k)) q
+          ∙ drop-at (done ++ group) (drop (n + k) flags) (n + k) count
+          ∙ sym (drop-drop k n flags)
+          ∙ ap (drop k) (filled .behind)
+          ∙ fewer-unset k (codeCount - n)
+          ∙ ap (λ m. replicate m false) left;
     }
 
-pub filled-all : {done flags : List Bool} → Filled codeCount done flags → flags ≡ done
-filled-all {done} {flags} filled = sym (take-all codeCount flags (omega arith)) ∙ filled .front
+pub filled-all : {n : ℕ} {done flags : List Bool} → Filled n done flags → flags ≡ done ++ replicate (codeCount - n) false
+filled-all {n} {done} {flags} filled = sym (take-append-drop n flags) ∙ (λ i. filled .front i ++ filled .behind i)

@@ -8,7 +8,7 @@ use Rattle.polish.proofs.cells.polish_of.Tie as tie
 
 returns : tie.Need-returns
 unfolding polishOf formWrong checkWrong bornWrong
-returns c = rw (sym ((c .before .before .is-polish) .ensures) ∙ not-true _ ((c .before .if1) .taken)) ((c .nothing) .ensures)
+returns c = rw (sym (c .before .is-polish .ensures) ∙ not-true _ (c .if1 .taken))
 
 returns-2 : tie.Need-returns-2
 unfolding polishOf formWrong checkWrong bornWrong numberGives
@@ -20,7 +20,6 @@ pub polish-of-spec : {M : Type 1} → statement M
 polish-of-spec =
     tie.close
     (tie.spec
-    (λ c κs. search needs)
     (λ c κs. search needs)
     returns
     (λ c κs. search needs)
