@@ -1,14 +1,24 @@
 // What a character of a code counts.
 ghost use mathlib.Core.Path.{_≡_};
+ghost use mathlib.Core.Bool.{cond};
+ghost use Rattle.text.specs.Class.{inClass};
 ghost use Rattle.ident.specs.Written.{valueOf};
 use text::Class;
 
-// A digit itself, A = 10 to Z = 35.
-pub fn value_of(b: u8) -> u32
-    ensures { λ r. ⌜ r ≡ valueOf b ⌝ }
+// A = 10 to Z = 35; 0 where it is no capital.
+fn letter_of(b: u8) -> u32
+    ensures { λ r. ⌜ r ≡ cond (inClass Class.Capital b) (valueOf b) 0 ⌝ }
 {
     if text::is_in(b, Class::Capital) {
         return (b - b'A') as u32 + 10;
     }
-    text::digit_of(b)
+    0
+}
+
+// As a letter and as a digit, one of which is 0. They are added and not chosen from, since a processor guesses such a
+// choice wrong at every second or third character.
+pub fn value_of(b: u8) -> u32
+    ensures { λ r. ⌜ r ≡ valueOf b ⌝ }
+{
+    letter_of(b) + text::digit_of(b)
 }

@@ -1,8 +1,9 @@
 // LEI and MIC.
 ghost use mathlib.Core.Path.{_≡_};
-ghost use Prim.Native.Nat.{_<_, _%_};
+ghost use Prim.Native.Nat.{_+_, _*_, _^_, _%_, _<_, _≤_};
+ghost use lib.ListN.{length, take, drop};
 ghost use Rattle.ident.specs.Codes.{leiShaped, leiRight, micShaped};
-ghost use Rattle.ident.specs.Written.{digitsOf, decimal, written};
+ghost use Rattle.ident.specs.Written.{digitsOf, writtenDigits, decimal, written};
 use crate::characters::value_of;
 use text::Class;
 
@@ -24,28 +25,63 @@ pub fn mic_shaped(s: &[u8]) -> bool
     text::all_within(s, 0, 4, Class::CapitalDigit)
 }
 
-// The remainder once a character's digits stand behind those that leave k.
-fn remainder_with(k: u32, value: u32) -> u32
-    requires { ⌜ (k < 97) × (value < 36) ⌝ }
-    ensures { λ r. ⌜ r ≡ decimal k (digitsOf value) % 97 ⌝ }
+// The number with the digits of a character behind k: a letter writes two. In 64 bits there is room for 17 behind a
+// remainder by 97, so for these behind 15.
+fn behind(k: u64, value: u32) -> u64
+    requires { ⌜ (k < 97 * 10 ^ 15) × (value < 36) ⌝ }
+    ensures { λ r. ⌜ r ≡ decimal k (digitsOf value) ⌝ }
 {
     if value < 10 {
-        return (k * 10 + value) % 97;
+        return k * 10 + value as u64;
     }
-    (k * 100 + value) % 97
+    k * 100 + value as u64
 }
 
-// By 97, of the number that the characters write.
+// With those of two characters from a place on, and of four.
+fn with_two(k: u64, s: &[u8], at: usize) -> u64
+    requires { ⌜ (k < 97 * 10 ^ 12) × (at + 2 ≤ length (now s)) ⌝ }
+    ensures { λ r. ⌜ r ≡ decimal k (writtenDigits (take 2 (drop at (now (s .entry))))) ⌝ }
+{
+    behind(behind(k, value_of(s[at])), value_of(s[at + 1]))
+}
+
+fn with_four(k: u64, s: &[u8], at: usize) -> u64
+    requires { ⌜ (k < 97 * 10 ^ 8) × (at + 4 ≤ length (now s)) ⌝ }
+    ensures { λ r. ⌜ r ≡ decimal k (writtenDigits (take 4 (drop at (now (s .entry))))) ⌝ }
+{
+    with_two(with_two(k, s, at), s, at + 2)
+}
+
+// With those of the last characters: of four at once, which are what a LEI has left, and then one by one.
+fn with_last(k: u64, s: &[u8]) -> u64
+    requires { ⌜ (k < 97) × (length (now s) ≤ 8) ⌝ }
+    ensures { λ r. ⌜ r ≡ decimal k (writtenDigits (now (s .entry))) ⌝ }
+{
+    let mut v = k;
+    let mut i = 0;
+    if 4 <= s.len() {
+        v = with_four(k, s, 0);
+        i = 4;
+    }
+    while i < s.len() {
+        v = behind(v, value_of(s[i]));
+        i += 1;
+    }
+    v
+}
+
+// By 97, of the number that the characters write. One division takes eight of them: that is 16 digits at most, and nine
+// could be 18.
 pub fn lei_remainder(s: &[u8]) -> u32
     ensures { λ r. ⌜ r ≡ written (now (s .entry)) % 97 ⌝ }
 {
-    let mut k = 0;
+    let mut k: u64 = 0;
     let mut i = 0;
-    while i < s.len() {
-        k = remainder_with(k, value_of(s[i]));
-        i += 1;
+    while 8 <= s.len() - i {
+        k = with_four(with_four(k, s, i), s, i + 4) % 97;
+        i += 8;
     }
-    k
+    (with_last(k, text::rest(s, i)) % 97) as u32
 }
 
 pub fn lei_right(s: &[u8]) -> bool

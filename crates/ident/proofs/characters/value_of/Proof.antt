@@ -1,30 +1,20 @@
 use Rattle.ident.proofs.characters.value_of.Statement.{statement}
 use Rattle.ident.proofs.characters.value_of.Tie as tie
-use mathlib.Core.Path.{sym, _∙_}
-use Rattle.ident.specs.Written.{valueOf}
-use Rattle.ident.proofs.WrittenLaws.{capital-yes}
+use Rattle.ident.proofs.WrittenLaws.{value-sum, value-small}
 use borrow.Author.Needs.{needs}
 use native.Mathlib.Omega.{arith}
 
-sub-result : tie.Need-sub-result
-sub-result c = omega (arith, capital-yes (c .before .before .args .b) (sym (c .before .is-in .ensures) ∙ c .if1 .taken))
+add-result : tie.Need-add-result
+add-result c = rw (c .before .letter-of .ensures, c .digit-of .ensures, value-sum (c .before .before .args .b)) (omega (arith, value-small (c .before .before .args .b)))
 
 returns : tie.Need-returns
-unfolding valueOf
-returns c = rw (sym (c .before .is-in .ensures) ∙ c .if1 .taken)
-
-returns-2 : tie.Need-returns-2
-unfolding valueOf
-returns-2 c = rw (sym (c .before .before .is-in .ensures) ∙ c .before .if1 .left) (c .digit-of .ensures)
+returns c = rw (c .before .letter-of .ensures, c .digit-of .ensures) (value-sum (c .before .before .args .b))
 
 pub value-of-spec : {M : Type 1} → statement M
 value-of-spec =
     tie.close
     (tie.spec
     (λ c κs. search needs)
-    sub-result
-    (λ c. search needs)
-    (λ c. search needs)
-    returns
     (λ c κs. search needs)
-    returns-2)
+    add-result
+    returns)
