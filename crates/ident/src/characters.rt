@@ -15,9 +15,19 @@ fn letter_of(b: u8) -> u32
     0
 }
 
-// As a letter and as a digit, one of which is 0. They are added and not chosen from, since a processor guesses such a
-// choice wrong at every second or third character.
+// A digit itself, A = 10 to Z = 35.
 pub fn value_of(b: u8) -> u32
+    ensures { λ r. ⌜ r ≡ valueOf b ⌝ }
+{
+    if text::is_in(b, Class::Capital) {
+        return letter_of(b);
+    }
+    text::digit_of(b)
+}
+
+// The same, added and not chosen: as a letter and as a digit, one of which is 0. Where characters stand in straight line,
+// eight of them are then worked out at once, and nothing is asked that a processor would have to guess.
+pub fn added_value(b: u8) -> u32
     ensures { λ r. ⌜ r ≡ valueOf b ⌝ }
 {
     letter_of(b) + text::digit_of(b)

@@ -4,7 +4,7 @@ ghost use Prim.Native.Nat.{_+_, _*_, _^_, _%_, _<_, _≤_};
 ghost use lib.ListN.{length, take, drop};
 ghost use Rattle.ident.specs.Codes.{leiShaped, leiRight, micShaped};
 ghost use Rattle.ident.specs.Written.{digitsOf, writtenDigits, decimal, written};
-use crate::characters::value_of;
+use crate::characters::added_value;
 use text::Class;
 
 pub fn lei_shaped(s: &[u8]) -> bool
@@ -42,7 +42,7 @@ fn with_two(k: u64, s: &[u8], at: usize) -> u64
     requires { ⌜ (k < 97 * 10 ^ 12) × (at + 2 ≤ length (now s)) ⌝ }
     ensures { λ r. ⌜ r ≡ decimal k (writtenDigits (take 2 (drop at (now (s .entry))))) ⌝ }
 {
-    behind(behind(k, value_of(s[at])), value_of(s[at + 1]))
+    behind(behind(k, added_value(s[at])), added_value(s[at + 1]))
 }
 
 fn with_four(k: u64, s: &[u8], at: usize) -> u64
@@ -64,7 +64,7 @@ fn with_last(k: u64, s: &[u8]) -> u64
         i = 4;
     }
     while i < s.len() {
-        v = behind(v, value_of(s[i]));
+        v = behind(v, added_value(s[i]));
         i += 1;
     }
     v

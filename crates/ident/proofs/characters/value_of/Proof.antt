@@ -1,14 +1,15 @@
 use Rattle.ident.proofs.characters.value_of.Statement.{statement}
 use Rattle.ident.proofs.characters.value_of.Tie as tie
-use Rattle.ident.proofs.WrittenLaws.{value-sum, value-small}
+use mathlib.Core.Path.{sym, _∙_}
+use Rattle.ident.specs.Written.{valueOf}
 use borrow.Author.Needs.{needs}
-use native.Mathlib.Omega.{arith}
-
-add-result : tie.Need-add-result
-add-result c = rw (c .before .letter-of .ensures, c .digit-of .ensures, value-sum (c .before .before .args .b)) (omega (arith, value-small (c .before .before .args .b)))
 
 returns : tie.Need-returns
-returns c = rw (c .before .letter-of .ensures, c .digit-of .ensures) (value-sum (c .before .before .args .b))
+returns c = c .letter-of .ensures ∙ rw (sym (c .before .before .is-in .ensures) ∙ c .before .if1 .taken)
+
+returns-2 : tie.Need-returns-2
+unfolding valueOf
+returns-2 c = rw (sym (c .before .before .is-in .ensures) ∙ c .before .if1 .left) (c .digit-of .ensures)
 
 pub value-of-spec : {M : Type 1} → statement M
 value-of-spec =
@@ -16,5 +17,6 @@ value-of-spec =
     (tie.spec
     (λ c κs. search needs)
     (λ c κs. search needs)
-    add-result
-    returns)
+    returns
+    (λ c κs. search needs)
+    returns-2)

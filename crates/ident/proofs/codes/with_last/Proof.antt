@@ -22,10 +22,10 @@ loop-holds c =
     (c .if1 .came)
 
 behind-requires : tie.Need-behind-requires Inv-loop μ-loop
-behind-requires c κs = (room-behind (c .before .before .before .loop .inv) (omega arith) (omega arith) (omega arith), rw (c .value-of .ensures) (value-small (getD (c .before .before .before .before .before .before .args .s .now) (c .before .before .before .loop .i) 0)))
+behind-requires c κs = (room-behind (c .before .before .before .loop .inv) (omega arith) (omega arith) (omega arith), rw (c .added-value .ensures) (value-small (getD (c .before .before .before .before .before .before .args .s .now) (c .before .before .before .loop .i) 0)))
 
 loop-again : tie.Need-loop-again Inv-loop μ-loop
-loop-again c = behind-on (c .before .before .before .before .before .loop .inv) (omega arith) (c .before .before .value-of .ensures) (c .before .behind .ensures)
+loop-again c = behind-on (c .before .before .before .before .before .loop .inv) (omega arith) (c .before .before .added-value .ensures) (c .before .behind .ensures)
 
 returns : tie.Need-returns Inv-loop μ-loop
 returns c = behind-all (c .before .loop .inv) (omega arith)

@@ -10,7 +10,7 @@ use native.Mathlib.Omega.{arith}
 behind-requires : tie.Need-behind-requires
 behind-requires c κs =
     let a = c .before .before .before .args in
-    (omega arith, rw (c .value-of .ensures) (value-small (getD (a .s .now) (a .at) 0)))
+    (omega arith, rw (c .added-value .ensures) (value-small (getD (a .s .now) (a .at) 0)))
 
 behind-requires-2 : tie.Need-behind-requires-2
 behind-requires-2 c κs =
@@ -18,19 +18,19 @@ behind-requires-2 c κs =
       omega (
         arith,
         part-below 1 (a .s .now) (a .at) (a .k) (omega arith)
-            (character-on (a .s .now) (a .at) (a .k) (omega arith) (c .before .before .before .value-of .ensures) (c .before .before .behind .ensures))
+            (character-on (a .s .now) (a .at) (a .k) (omega arith) (c .before .before .before .added-value .ensures) (c .before .before .behind .ensures))
             (97 * 10 ^ 12) (omega arith),
       ),
-      rw (c .value-of2 .ensures) (value-small (getD (a .s .now) (a .at + 1) 0)),
+      rw (c .added-value2 .ensures) (value-small (getD (a .s .now) (a .at + 1) 0)),
     )
 
 returns : tie.Need-returns
 returns c =
     let a = c .before .before .before .before .before .before .before .args in
     parts-on 1 (a .s .now) (a .at) (a .k) (omega arith)
-    (character-on (a .s .now) (a .at) (a .k) (omega arith) (c .before .before .before .before .value-of .ensures) (c .before .before .before .behind .ensures))
+    (character-on (a .s .now) (a .at) (a .k) (omega arith) (c .before .before .before .before .added-value .ensures) (c .before .before .before .behind .ensures))
     1
-    (character-on (a .s .now) (a .at + 1) (c .before .before .before .behind .result) (omega arith) (c .before .value-of2 .ensures) (c .behind2 .ensures))
+    (character-on (a .s .now) (a .at + 1) (c .before .before .before .behind .result) (omega arith) (c .before .added-value2 .ensures) (c .behind2 .ensures))
 
 pub with-two-spec : {M : Type 1} → statement M
 with-two-spec =
