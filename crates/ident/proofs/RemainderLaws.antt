@@ -48,9 +48,9 @@ below m k (b ∷ s) h =
     first : (v : ℕ) → v < 36 → decimal k (digitsOf v) < m * 10 ^ length (digitsOf v)
     first v l = by-digits (λ ds. decimal k ds < m * 10 ^ length ds) v (λ e. omega arith) (λ e. omega arith)
 
--- for each number n of digits taken at a time: behind a number below m they write one below m with n zeros
-stays-below : (m n k : ℕ) (s : List ℕ) → k < m → length (writtenDigits s) ≤ n → decimal k (writtenDigits s) < m * 10 ^ n
-stays-below m n k s h l = omega (arith, below m k s h, mul-le-mul-left m (ten-grows (length (writtenDigits s)) n l))
+-- The law of n digits at a time, for each n: behind a number below m they write one below m with n zeros.
+pub digits-below : (m n k : ℕ) (s : List ℕ) → k < m → length (writtenDigits s) ≤ n → decimal k (writtenDigits s) < m * 10 ^ n
+digits-below m n k s h l = omega (arith, below m k s h, mul-le-mul-left m (ten-grows (length (writtenDigits s)) n l))
 
 -- behind a remainder by 97 there is room for 17 digits in 64 bits, and not for 18
 pub room-for-17 : 97 * 10 ^ 17 ≤ 2 ^ 64
@@ -59,9 +59,9 @@ room-for-17 = omega arith
 pub none-for-18 : 2 ^ 64 < 97 * 10 ^ 18
 none-for-18 = omega arith
 
--- the same by the number c of characters, which write two digits at most
+-- c characters at a time, which are 2c digits at most
 pub characters-below : (m c k : ℕ) (s : List ℕ) → k < m → length s ≤ c → decimal k (writtenDigits s) < m * 10 ^ (2 * c)
-characters-below m c k s h l = stays-below m (2 * c) k s h (omega (arith, two-each s))
+characters-below m c k s h l = digits-below m (2 * c) k s h (omega (arith, two-each s))
 
 -- the digits of one character behind k
 pub character-on : (s : List ℕ) (i k : ℕ) {v r : ℕ} → i < length s → v ≡ valueOf (getD s i 0) → r ≡ decimal k (digitsOf v) → r ≡ decimal k (writtenDigits (take 1 (drop i s)))

@@ -25,8 +25,8 @@ pub fn mic_shaped(s: &[u8]) -> bool
     text::all_within(s, 0, 4, Class::CapitalDigit)
 }
 
-// The number with the digits of a character behind k: a letter writes two. In 64 bits there is room for 17 behind a
-// remainder by 97, so for these behind 15.
+// The number with the digits of a character behind k: a letter writes two. In 64 bits there is room for 17 digits behind a
+// remainder by 97, so for these behind 15 of them.
 fn behind(k: u64, value: u32) -> u64
     requires { ⌜ (k < 97 * 10 ^ 15) × (value < 36) ⌝ }
     ensures { λ r. ⌜ r ≡ decimal k (digitsOf value) ⌝ }
@@ -37,22 +37,23 @@ fn behind(k: u64, value: u32) -> u64
     k * 100 + value as u64
 }
 
-// With those of two characters from a place on, and of four.
+// With those of two characters from a place on: 4 digits at most, behind 13.
 fn with_two(k: u64, s: &[u8], at: usize) -> u64
-    requires { ⌜ (k < 97 * 10 ^ 12) × (at + 2 ≤ length (now s)) ⌝ }
+    requires { ⌜ (k < 97 * 10 ^ 13) × (at + 2 ≤ length (now s)) ⌝ }
     ensures { λ r. ⌜ r ≡ decimal k (writtenDigits (take 2 (drop at (now (s .entry))))) ⌝ }
 {
     behind(behind(k, added_value(s[at])), added_value(s[at + 1]))
 }
 
+// With those of four: 8 at most, behind 9.
 fn with_four(k: u64, s: &[u8], at: usize) -> u64
-    requires { ⌜ (k < 97 * 10 ^ 8) × (at + 4 ≤ length (now s)) ⌝ }
+    requires { ⌜ (k < 97 * 10 ^ 9) × (at + 4 ≤ length (now s)) ⌝ }
     ensures { λ r. ⌜ r ≡ decimal k (writtenDigits (take 4 (drop at (now (s .entry))))) ⌝ }
 {
     with_two(with_two(k, s, at), s, at + 2)
 }
 
-// With those of the last characters: of four at once, which are what a LEI has left, and then one by one.
+// With those of the last characters, 16 at most: of four at once, which are what a LEI has left, and then one by one.
 fn with_last(k: u64, s: &[u8]) -> u64
     requires { ⌜ (k < 97) × (length (now s) ≤ 8) ⌝ }
     ensures { λ r. ⌜ r ≡ decimal k (writtenDigits (now (s .entry))) ⌝ }
@@ -70,7 +71,7 @@ fn with_last(k: u64, s: &[u8]) -> u64
     v
 }
 
-// By 97, of the number that the characters write. One division takes eight of them: that is 16 digits at most, and nine
+// By 97, of the number that the characters write. One division takes eight of them: they are 16 digits at most, and nine
 // could be 18.
 pub fn lei_remainder(s: &[u8]) -> u32
     ensures { λ r. ⌜ r ≡ written (now (s .entry)) % 97 ⌝ }

@@ -21,7 +21,7 @@ loop-holds c = left-start
 with-four-requires-2 : tie.Need-with-four-requires-2 Inv-loop μ-loop
 with-four-requires-2 c κs =
     let l = c .before .before .loop in
-    (part-below 4 (c .before .before .before .before .args .s .now) (l .i) (l .k) (omega arith) (c .with-four .ensures) 97 (l .inv .small), omega arith)
+    (omega (arith, part-below 4 (c .before .before .before .before .args .s .now) (l .i) (l .k) (omega arith) (c .with-four .ensures) 97 (l .inv .small)), omega arith)
 
 loop-again : tie.Need-loop-again Inv-loop μ-loop
 loop-again c =

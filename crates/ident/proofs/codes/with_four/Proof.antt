@@ -7,7 +7,7 @@ use native.Mathlib.Omega.{arith}
 with-two-requires-2 : tie.Need-with-two-requires-2
 with-two-requires-2 c κs =
     let a = c .before .before .args in
-    (part-below 2 (a .s .now) (a .at) (a .k) (omega arith) (c .with-two .ensures) (97 * 10 ^ 8) (omega arith), omega arith)
+    (part-below 2 (a .s .now) (a .at) (a .k) (omega arith) (c .with-two .ensures) (97 * 10 ^ 9) (omega arith), omega arith)
 
 returns : tie.Need-returns
 returns c =

@@ -19,7 +19,7 @@ behind-requires-2 c κs =
         arith,
         part-below 1 (a .s .now) (a .at) (a .k) (omega arith)
             (character-on (a .s .now) (a .at) (a .k) (omega arith) (c .before .before .before .added-value .ensures) (c .before .before .behind .ensures))
-            (97 * 10 ^ 12) (omega arith),
+            (97 * 10 ^ 13) (omega arith),
       ),
       rw (c .added-value2 .ensures) (value-small (getD (a .s .now) (a .at + 1) 0)),
     )
