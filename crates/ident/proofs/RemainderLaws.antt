@@ -64,9 +64,9 @@ pub characters-below : (m c k : ℕ) (s : List ℕ) → k < m → length s ≤ c
 characters-below m c k s h l = digits-below m (2 * c) k s h (omega (arith, two-each s))
 
 -- the digits of one character behind k
-pub character-on : (s : List ℕ) (i k : ℕ) {v r : ℕ} → i < length s → v ≡ valueOf (getD s i 0) → r ≡ decimal k (digitsOf v) → r ≡ decimal k (writtenDigits (take 1 (drop i s)))
+pub character-on : (s : List ℕ) (i k : ℕ) {r : ℕ} → i < length s → r ≡ decimal k (digitsOf (valueOf (getD s i 0))) → r ≡ decimal k (writtenDigits (take 1 (drop i s)))
 unfolding writtenDigits
-character-on s i k h e f = f ∙ rw (e, rest-at 0 s i h, append-nil (digitsOf (valueOf (getD s i 0))))
+character-on s i k h e = e ∙ rw (rest-at 0 s i h, append-nil (digitsOf (valueOf (getD s i 0))))
 
 -- those of two parts, one after the other
 module _ (m : ℕ) (s : List ℕ) (i k : ℕ) {v : ℕ} (h : i + m ≤ length s) (e : v ≡ decimal k (writtenDigits (take m (drop i s)))) where
@@ -95,11 +95,11 @@ module _ {k : ℕ} {s : List ℕ} {v i : ℕ} (before : BehindSoFar k s v i) whe
   pub room-behind : k < 97 → length s ≤ 8 → i < length s → v < 97 * 10 ^ 15
   room-behind h l m = rw (before .so-far) (omega (arith, characters-below 97 7 k (take i s) h (omega (arith, length-take-le i s (before .within)))))
 
-  pub behind-on : {c r : ℕ} → i < length s → c ≡ valueOf (getD s i 0) → r ≡ decimal v (digitsOf c) → BehindSoFar k s r (i + 1)
-  behind-on h e f =
+  pub behind-on : {r : ℕ} → i < length s → r ≡ decimal v (digitsOf (valueOf (getD s i 0))) → BehindSoFar k s r (i + 1)
+  behind-on h e =
       record {
         within = omega arith;
-        so-far = parts-on i s 0 k (omega arith) (before .so-far) 1 (rw (zero-add i) (character-on s i v h e f));
+        so-far = parts-on i s 0 k (omega arith) (before .so-far) 1 (rw (zero-add i) (character-on s i v h e));
       }
 
   pub behind-all : length s ≤ i → v ≡ decimal k (writtenDigits s)

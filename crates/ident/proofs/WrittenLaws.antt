@@ -47,15 +47,15 @@ module _ (v : ℕ) where
   unfolding digitsOf
   two-digits h = rw (le-ltb _ _ h)
 
--- digits behind what stands for k
-module _ (k v : ℕ) where
-  pub one-behind : v < 10 → k * 10 + v ≡ decimal k (digitsOf v)
+-- the digits of a character with value v, behind what stands for k
+module _ (k b : ℕ) {v : ℕ} (e : v ≡ valueOf b) where
+  pub one-behind : v < 10 → k * 10 + v ≡ decimal k (digitsOf (valueOf b))
   unfolding decimal
-  one-behind h = rw (one-digit v h)
+  one-behind h = rw (sym e, one-digit v h)
 
-  pub two-behind : 10 ≤ v → k * 100 + v ≡ decimal k (digitsOf v)
+  pub two-behind : 10 ≤ v → k * 100 + v ≡ decimal k (digitsOf (valueOf b))
   unfolding decimal
-  two-behind h = rw (two-digits v h) (omega arith)
+  two-behind h = rw (sym e, two-digits v h) (omega arith)
 
 -- what characters write, one part behind another
 pub written-append : (s t : List ℕ) → writtenDigits (s ++ t) ≡ writtenDigits s ++ writtenDigits t

@@ -3,7 +3,7 @@ ghost use mathlib.Core.Path.{_≡_};
 ghost use Prim.Native.Nat.{_+_, _*_, _^_, _%_, _<_, _≤_};
 ghost use lib.ListN.{length, take, drop};
 ghost use Rattle.ident.specs.Codes.{leiShaped, leiRight, micShaped};
-ghost use Rattle.ident.specs.Written.{digitsOf, writtenDigits, decimal, written};
+ghost use Rattle.ident.specs.Written.{valueOf, digitsOf, writtenDigits, decimal, written};
 use crate::characters::added_value;
 use text::Class;
 
@@ -27,14 +27,15 @@ pub fn mic_shaped(s: &[u8]) -> bool
 
 // The number with the digits of a character behind k: a letter writes two. In 64 bits there is room for 17 digits behind a
 // remainder by 97, so for these behind 15 of them.
-fn behind(k: u64, value: u32) -> u64
-    requires { ⌜ (k < 97 * 10 ^ 15) × (value < 36) ⌝ }
-    ensures { λ r. ⌜ r ≡ decimal k (digitsOf value) ⌝ }
+fn behind(k: u64, b: u8) -> u64
+    requires { ⌜ k < 97 * 10 ^ 15 ⌝ }
+    ensures { λ r. ⌜ r ≡ decimal k (digitsOf (valueOf b)) ⌝ }
 {
+    let value = added_value(b) as u64;
     if value < 10 {
-        return k * 10 + value as u64;
+        return k * 10 + value;
     }
-    k * 100 + value as u64
+    k * 100 + value
 }
 
 // With those of two characters from a place on: 4 digits at most, behind 13.
@@ -42,7 +43,7 @@ fn with_two(k: u64, s: &[u8], at: usize) -> u64
     requires { ⌜ (k < 97 * 10 ^ 13) × (at + 2 ≤ length (now s)) ⌝ }
     ensures { λ r. ⌜ r ≡ decimal k (writtenDigits (take 2 (drop at (now (s .entry))))) ⌝ }
 {
-    behind(behind(k, added_value(s[at])), added_value(s[at + 1]))
+    behind(behind(k, s[at]), s[at + 1])
 }
 
 // With those of four: 8 at most, behind 9.
@@ -65,7 +66,7 @@ fn with_last(k: u64, s: &[u8]) -> u64
         i = 4;
     }
     while i < s.len() {
-        v = behind(v, added_value(s[i]));
+        v = behind(v, s[i]);
         i += 1;
     }
     v

@@ -2,8 +2,7 @@ use Rattle.ident.proofs.codes.with_last.Statement.{statement}
 use Rattle.ident.proofs.codes.with_last.Tie as tie
 use mathlib.Core.Logic.{⊎-elim}
 use Prim.Native.Nat.{_-_}
-use lib.ListN.{length, getD}
-use Rattle.ident.proofs.WrittenLaws.{value-small}
+use lib.ListN.{length}
 use Rattle.ident.proofs.RemainderLaws.{BehindSoFar, behind-none, room-behind, behind-on, behind-all}
 use borrow.Author.Needs.{needs}
 use native.Mathlib.Omega.{arith}
@@ -22,10 +21,10 @@ loop-holds c =
     (c .if1 .came)
 
 behind-requires : tie.Need-behind-requires Inv-loop μ-loop
-behind-requires c κs = (room-behind (c .before .before .before .loop .inv) (omega arith) (omega arith) (omega arith), rw (c .added-value .ensures) (value-small (getD (c .before .before .before .before .before .before .args .s .now) (c .before .before .before .loop .i) 0)))
+behind-requires c κs = room-behind (c .before .before .loop .inv) (omega arith) (omega arith) (omega arith)
 
 loop-again : tie.Need-loop-again Inv-loop μ-loop
-loop-again c = behind-on (c .before .before .before .before .before .loop .inv) (omega arith) (c .before .before .added-value .ensures) (c .before .behind .ensures)
+loop-again c = behind-on (c .before .before .before .before .loop .inv) (omega arith) (c .before .behind .ensures)
 
 returns : tie.Need-returns Inv-loop μ-loop
 returns c = behind-all (c .before .loop .inv) (omega arith)
@@ -39,7 +38,6 @@ with-last-spec =
     (λ c κs. (omega arith, omega arith))
     loop-holds
     (λ c. omega arith)
-    (λ c κs. search needs)
     behind-requires
     (λ c. omega arith)
     (λ c. omega arith)
