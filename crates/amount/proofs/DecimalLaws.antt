@@ -1,5 +1,5 @@
 -- Decimals: where the point stands, how many digits there can be, and that their number fits.
-use mathlib.Core.Path.{_≡_, _∙_, sym}
+use mathlib.Core.Path.{_≡_, _∙_, sym, ap}
 use mathlib.Core.Bool.{Bool, true, false, cond, _&&_, _||_}
 use mathlib.Core.List.{List, [], _∷_, _++_}
 use mathlib.Core.Logic.{⊎-elim}
@@ -15,7 +15,7 @@ use Rattle.text.specs.Word.{startsWith}
 use Rattle.text.proofs.Bools.{and-left, and-right, or-cases, by-test}
 use Rattle.text.proofs.Lists.{rest-at}
 use Rattle.text.proofs.NumberLaws.{numeral-below, ten-grows}
-use Rattle.amount.specs.Decimal.{pointAt, whole, decimals, isDecimal, digitsOf, tagged}
+use Rattle.amount.specs.Decimal.{pointAt, whole, decimals, isDecimal, digitsOf, withoutLastZeros, fewestDecimals, tagged}
 use Rattle.amount.specs.Signed.{behindSign, isSigned}
 
 pub point-within : (s : List ℕ) → pointAt s ≤ length s
@@ -76,9 +76,9 @@ module _ (s : List ℕ) {p : ℕ} (here : p ≡ pointAt s) where
   unfolding decimals
   decimals-are e = e ∙ rw here
 
-  pub digits-are : {w d : List ℕ} → w ≡ take p s → d ≡ drop (p + 1) s → (w ++ d) ≡ digitsOf s
-  unfolding digitsOf
-  digits-are e f = λ i. whole-is e i ++ decimals-are f i
+  pub fewest-are : {d t : List ℕ} → t ≡ withoutLastZeros d → d ≡ drop (p + 1) s → t ≡ fewestDecimals s
+  unfolding fewestDecimals
+  fewest-are f e = f ∙ ap withoutLastZeros (decimals-are e)
 
   module _ (n f m : ℕ) {w : List ℕ} {r : Bool} (front : r ≡ runOf Digit 1 n w) (at : w ≡ take p s) where
     pub no-whole : r ≡ false → false ≡ isDecimal n f m s

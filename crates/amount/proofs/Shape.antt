@@ -18,7 +18,9 @@ use Rattle.text.specs.Class.{inClass, allOf, runOf, is}
 use Rattle.text.specs.Number.{numberOf}
 use Rattle.text.proofs.Bools.{and-left, and-right, by-test}
 use Rattle.text.proofs.NumberLaws.{digit-yes}
-use Rattle.amount.specs.Decimal.{pointAt, whole, decimals, digitsOf, isDecimal, valueOf}
+use Rattle.amount.specs.Decimal.{pointAt, whole, decimals, isDecimal, withoutLastZeros, fewestDecimals, decimalOf, valueOf}
+use Rattle.amount.proofs.ValueLaws.{Fewest, short-fewest}
+use Rattle.amount.proofs.LastZeros.{digits-same, digits-short}
 use Rattle.amount.proofs.DecimalLaws.{point-within, whole-length}
 
 -- the second row: at most m long, 1 to n digits, a point, 0 to f digits
@@ -80,17 +82,21 @@ module _ (w t : List ℕ) (e : allOf Digit w ≡ true) where
 module _ (n f m : ℕ) where
   -- 1 to n digits are D(n, f, m), and stand for the number that they write
   pub accept-plain : (s : List ℕ) → runOf Digit 1 n s ≡ true → (isDecimal n f m s ≡ true) × (valueOf s ≡ record { mantissa = pos (numberOf s); places = 0 })
-  unfolding isDecimal valueOf digitsOf
+  unfolding isDecimal valueOf fewestDecimals withoutLastZeros
   accept-plain s e =
       let d : allOf Digit s ≡ true = and-right (leb 1 (length s) && leb (length s) n) _ e in
       (rw (plain-whole s d, e, eq-eqb (length s) (length s) refl), rw (plain-whole s d, plain-decimals s d, append-nil s))
 
-  -- at most m long, 1 to n digits, a point and 0 to f digits are, and stand for the number that the digits write, with those behind the point as places
-  pub accept-point : (w t : List ℕ) → runOf Digit 1 n w ≡ true → runOf Digit 0 f t ≡ true → length (w ++ (ascii "." ++ t)) ≤ m → (isDecimal n f m (w ++ (ascii "." ++ t)) ≡ true) × (valueOf (w ++ (ascii "." ++ t)) ≡ record { mantissa = pos (numberOf (w ++ t)); places = length t })
-  unfolding isDecimal valueOf digitsOf
+  -- at most m long, 1 to n digits, a point and 0 to f digits are, and stand for the number that the digits write, those behind the point as places,
+  -- in the fewest places that have this value
+  pub accept-point : (w t : List ℕ) → runOf Digit 1 n w ≡ true → runOf Digit 0 f t ≡ true → length (w ++ (ascii "." ++ t)) ≤ m → (isDecimal n f m (w ++ (ascii "." ++ t)) ≡ true) × (length (w ++ t) ≤ 18 → Fewest (valueOf (w ++ (ascii "." ++ t))) (decimalOf w t))
+  unfolding isDecimal valueOf fewestDecimals
   accept-point w t e g h =
       let d : allOf Digit w ≡ true = and-right (leb 1 (length w) && leb (length w) n) _ e in
-      (rw (point-whole w t d, point-decimals w t d, e, g, le-leb _ _ h) (or-true (eqb (length w) (length (w ++ 46 ∷ t)))), rw (point-whole w t d, point-decimals w t d))
+      let b : allOf Digit t ≡ true = and-right (leb 0 (length t) && leb (length t) f) _ g in (
+        rw (point-whole w t d, point-decimals w t d, e, g, le-leb _ _ h) (or-true (eqb (length w) (length (w ++ 46 ∷ t)))),
+        λ few. rw (point-whole w t d, point-decimals w t d) (short-fewest (digits-same w t few b) (digits-short w t few b)),
+      )
 
   -- and nothing else is
   pub only : (s : List ℕ) → isDecimal n f m s ≡ true → (runOf Digit 1 n s ≡ true) ⊎ Pointed n f m s

@@ -17,7 +17,7 @@ behindSign s = cond (startsWith (ascii "+") s || startsWith (ascii "-") s) (drop
 unfoldable pub isSigned : ℕ → ℕ → ℕ → List ℕ → Bool
 isSigned n f m s = isDecimal n f m (behindSign s)
 
--- below zero for a minus; -0 is 0
+-- below zero for a minus; zero has no sign
 abbrev pub negated : Decimal → Decimal
 negated d = record { mantissa = negℤ (d .mantissa); places = d .places }
 

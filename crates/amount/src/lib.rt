@@ -1,17 +1,16 @@
 // Amounts: the decimal form D(n, f, m) of the paper, and the prices and quantities that are written with it.
 //
-// A decimal is read to a whole number and the number of its decimal places: no digit that was written is lost.
+// A decimal is read to a whole number and the fewest decimal places that lose nothing, so equal amounts have one form.
 ghost use mathlib.Core.Path.{_≡_};
 ghost use Prim.Native.Nat.{_≤_};
 ghost use lib.ListN.{length};
-ghost use Rattle.text.specs.Number.{numberOf};
-ghost use Rattle.amount.specs.Decimal.{pointAt, digitsOf, isDecimal, valueOf, tagged};
+ghost use Rattle.amount.specs.Decimal.{pointAt, digitsOf, isDecimal, withoutLastZeros, valueOf, tagged};
 ghost use Rattle.amount.specs.Signed.{behindSign, signedValueOf, signedOf, signedKind};
 ghost use Rattle.amount.specs.Price.{moneyOf, priceOf, priceKind};
-ghost use Rattle.amount.specs.Quantity.{quantityOf, quantityKind};
+ghost use Rattle.amount.specs.Quantity.{unitsOf, quantityOf, quantityKind};
 use text::Class;
 
-// The mantissa with its point moved left by the places: 1.50 is 150 with 2 places.
+// The mantissa with its point moved left by the places: 1.50 is 15 with 1 place, and every zero 0 with none.
 pub struct Decimal {
     pub mantissa: i64,
     pub places: u8,
@@ -77,24 +76,33 @@ pub fn is_decimal(s: &[u8], n: usize, f: usize, m: usize) -> bool
     (s.len() <= m) & text::run_of(text::rest(s, point + 1), Class::Digit, 0, f)
 }
 
-// The number that the digits write, the point passed over.
-fn number_of(s: &[u8]) -> u64
-    ensures { λ r. ⌜ r ≡ numberOf (digitsOf (now (s .entry))) ⌝ }
+// Zeros at the end of decimals say nothing. They are looked for from the end, where most decimals have none.
+fn without_last_zeros(s: &[u8]) -> &[u8]
+    ensures { λ r. ⌜ now r ≡ withoutLastZeros (now (s .entry)) ⌝ }
 {
-    let point = point_at(s);
-    text::joined_number(text::head(s, point), text::rest(s, point + 1))
+    let mut end = s.len();
+    while 0 < end {
+        if s[end - 1] != b'0' {
+            return text::head(s, end);
+        }
+        end -= 1;
+    }
+    text::head(s, 0)
 }
 
 // At the document's widths there are never more than 18 digits: with a point among them, 19 bytes hold no more.
+// A zero before the point stays: places never fall below none.
 fn value_of(s: &[u8]) -> Decimal
     requires { ⌜ length (digitsOf (now s)) ≤ 18 ⌝ }
     ensures { λ r. ⌜ r ≡ valueOf (now (s .entry)) ⌝ }
 {
     let point = point_at(s);
-    let d = text::rest(s, point + 1);
+    let before = text::head(s, point);
+    let behind = text::rest(s, point + 1);
+    let fewest = without_last_zeros(behind);
     Decimal {
-        mantissa: text::joined_number(text::head(s, point), d) as i64,
-        places: d.len() as u8,
+        mantissa: text::joined_number(before, fewest) as i64,
+        places: fewest.len() as u8,
     }
 }
 
@@ -108,7 +116,7 @@ fn behind_sign(s: &[u8]) -> &[u8]
     s
 }
 
-// Below zero for a minus. Behind it there are at most 18 digits, so the negation is exact at both ends, and -0 is 0.
+// Below zero for a minus. Behind it there are at most 18 digits, so the negation is exact at both ends, and zero has no sign.
 fn signed_value_of(s: &[u8]) -> Decimal
     requires { ⌜ length (digitsOf (behindSign (now s))) ≤ 18 ⌝ }
     ensures { λ r. ⌜ r ≡ signedValueOf (now (s .entry)) ⌝ }
@@ -177,12 +185,22 @@ pub fn parse_price(s: &[u8]) -> Price
     Price::Malformed
 }
 
+// Units are not zero.
+fn units_of(d: Decimal) -> Quantity
+    ensures { λ r. ⌜ r ≡ unitsOf d ⌝ }
+{
+    if d.mantissa == 0 {
+        return Quantity::Malformed;
+    }
+    Quantity::Units(d)
+}
+
 // Cell 30.
 pub fn parse_quantity(s: &[u8]) -> Quantity
     ensures { λ r. ⌜ r ≡ quantityOf (now (s .entry)) ⌝ }
 {
-    if tagged(s, b"UNT:", 18, 17, 19) & (number_of(text::rest(s, 4)) != 0) {
-        return Quantity::Units(value_of(text::rest(s, 4)));
+    if tagged(s, b"UNT:", 18, 17, 19) {
+        return units_of(value_of(text::rest(s, 4)));
     }
     if tagged(s, b"NOM:", 18, 5, 19) {
         return Quantity::Nominal(value_of(text::rest(s, 4)));

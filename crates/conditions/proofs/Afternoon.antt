@@ -17,7 +17,7 @@ use Rattle.calendar.specs.Day.{leap, monthLength, isDay, fiveYearsBefore}
 use Rattle.calendar.specs.Moments.{isTime, isEnding, microWritten, isMomentCell, whenOf, isMoment}
 use Rattle.ident.specs.Party.{named, wellFormed, identifierOf, partyWith}
 use Rattle.ident.specs.Written.{valueOf, digitsOf, writtenDigits, decimal}
-use Rattle.amount.specs.Decimal.{pointAt, whole, decimals, isDecimal, digitsOf as digitsOf-amount, valueOf as valueOf-amount, tagged}
+use Rattle.amount.specs.Decimal.{pointAt, whole, decimals, isDecimal, withoutLastZeros, fewestDecimals, valueOf as valueOf-amount, tagged}
 use Rattle.amount.specs.Price.{priceOf}
 use Rattle.amount.specs.Quantity.{quantityOf}
 use Rattle.cells.specs.Cells.{cellsOf, cell}
@@ -49,7 +49,7 @@ step line register o run e =
 
 -- each call
 pub afternoon : Afternoon
-unfolding allOf firstFrom digitOf numeral numberOf twoDigits fourDigits suits shape startsWith same among oneOf dayWritten leap monthLength isDay fiveYearsBefore isTime isEnding microWritten isMomentCell whenOf isMoment named wellFormed identifierOf partyWith valueOf digitsOf writtenDigits decimal pointAt whole decimals isDecimal digitsOf-amount valueOf-amount tagged priceOf quantityOf cellsOf cell statusOf formFinding formFindings holds formOf framedAs chunks rowsFrom some used capacity framed full isUsed filled pairBytes rowsIn ownFrom look firstRow standing restated appended put setCancelled words rules any matches broken violated spaced textOf rowsFrom-cfi matchesIn rowBroken marked goodCells pairStands holdings flags polishFlags momentOf dayOf leiGoodUnlapsed leiGood leiWrong countryWrong partyLeiWrong partyCountryWrong partyMicWrong partyShapeWrong birthWrong isLate isPast isEntity currencyWrong quantityCurrencyWrong secondCurrency isinWrong notBefore tooOld heldWord heldQuantity heldPrice heldSwap inFront allRight kindNamed ruleCodes formCodes polishCodes codes wordOf pick verdictOf refusedBy written outcome allFlags clean noRoom refusal
+unfolding allOf firstFrom digitOf numeral numberOf twoDigits fourDigits suits shape startsWith same among oneOf dayWritten leap monthLength isDay fiveYearsBefore isTime isEnding microWritten isMomentCell whenOf isMoment named wellFormed identifierOf partyWith valueOf digitsOf writtenDigits decimal pointAt whole decimals isDecimal withoutLastZeros fewestDecimals valueOf-amount tagged priceOf quantityOf cellsOf cell statusOf formFinding formFindings holds formOf framedAs chunks rowsFrom some used capacity framed full isUsed filled pairBytes rowsIn ownFrom look firstRow standing restated appended put setCancelled words rules any matches broken violated spaced textOf rowsFrom-cfi matchesIn rowBroken marked goodCells pairStands holdings flags polishFlags momentOf dayOf leiGoodUnlapsed leiGood leiWrong countryWrong partyLeiWrong partyCountryWrong partyMicWrong partyShapeWrong birthWrong isLate isPast isEntity currencyWrong quantityCurrencyWrong secondCurrency isinWrong notBefore tooOld heldWord heldQuantity heldPrice heldSwap inFront allRight kindNamed ruleCodes formCodes polishCodes codes wordOf pick verdictOf refusedBy written outcome allFlags clean noRoom refusal
 afternoon =
     record { too-early = refl; reported = refl; twice = refl; cancelled = refl; twice-cancelled = refl; again = refl; no-room = refl }
 

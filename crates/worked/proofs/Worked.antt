@@ -8,14 +8,14 @@ use Rattle.calendar.specs.Day.{leap, monthLength, isDay, fiveYearsBefore}
 use Rattle.calendar.specs.Dates.{dayWritten, dateOf}
 use Rattle.ident.specs.Written.{valueOf as valueOf′, digitsOf as digitsOf′, writtenDigits, decimal}
 use Rattle.ident.specs.Codes.{oddly, doubleAddDouble}
-use Rattle.amount.specs.Decimal.{pointAt, whole, decimals, isDecimal, digitsOf, valueOf, tagged}
+use Rattle.amount.specs.Decimal.{pointAt, whole, decimals, isDecimal, withoutLastZeros, fewestDecimals, valueOf, tagged}
 use Rattle.amount.specs.Price.{priceOf}
 use Rattle.amount.specs.Quantity.{quantityOf}
 use Rattle.facts.specs.Words.{tooOld}
 use Rattle.worked.specs.Examples.{Examples}
 
 pub examples : Examples
-unfolding valueOf′ digitsOf′ writtenDigits decimal allOf startsWith same suits shape digitOf numeral numberOf twoDigits fourDigits leap monthLength isDay fiveYearsBefore dayWritten dateOf oddly doubleAddDouble pointAt whole decimals isDecimal digitsOf valueOf tagged priceOf quantityOf tooOld
+unfolding valueOf′ digitsOf′ writtenDigits decimal allOf startsWith same suits shape digitOf numeral numberOf twoDigits fourDigits leap monthLength isDay fiveYearsBefore dayWritten dateOf oddly doubleAddDouble pointAt whole decimals isDecimal withoutLastZeros fewestDecimals valueOf tagged priceOf quantityOf tooOld
 examples =
     record {
       lei-98 = refl;
