@@ -1,7 +1,8 @@
 //! A second reading of the paper that fixes the rules, written independently of the proved checker, and the tools
 //! that hold the two against each other: `cases` makes calls with the results expected of them, `compare` looks at
-//! what the proved side answered, `coverage` counts what a file of cases reaches. `program` is the paper's program,
-//! `report` makes inputs for it, and `drip` hands them over in short pieces.
+//! what the proved side answered, `coverage` counts what a file of cases reaches. `amounts` makes texts for cells that
+//! hold amounts, with what is to be read in them. `program` is the paper's program, `report` makes inputs for it, and
+//! `drip` hands them over in short pieces.
 //!
 //! For benchmarks there are two functions:
 //!
@@ -11,6 +12,7 @@
 //! - `sized_bench_day(seed: u64, count: usize, list_rows: usize, register_rows: usize) -> BenchDay` makes the same
 //!   lines over longer lists and a register with that many rows used before the first line.
 
+pub mod amounts;
 pub mod codes;
 pub mod compare;
 pub mod coverage;

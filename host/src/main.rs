@@ -6,13 +6,14 @@ use std::fs::File;
 use std::io::{self, BufReader, BufWriter, Write};
 use std::process::ExitCode;
 
-use host::{compare, coverage, program, recipe, report};
+use host::{amounts, compare, coverage, program, recipe, report};
 
 const USAGE: &str = "usage:
   host cases SEED N FILE        make N calls with the results expected of them
   host answer FILE RESULTS      write the reference's own results, as the proved side would
   host compare FILE RESULTS     hold the results of the proved side against them
   host coverage FILE [TIMES]    count what the cases reach; each code alone at least TIMES (5)
+  host amounts SEED N           N texts for cells 30, 33 and 38, with what is to be read in them
   host program                  the paper's program: standard input to standard output
   host report SEED N            an input for it of N lines, of every kind
   host drip SEED                standard input to standard output, in short pieces with pauses between
@@ -47,6 +48,12 @@ fn run(arguments: &[&str]) -> Result<bool, Box<dyn Error>> {
         ["coverage", cases, times] => {
             let times = times.parse().map_err(|_| format!("{times}: not a number"))?;
             Ok(coverage::run(open(cases)?, times, output)?)
+        }
+        ["amounts", seed, count] => {
+            let count = count.parse().map_err(|_| format!("{count}: not a number of texts"))?;
+            output.write_all(&amounts::cases(seed_in(seed)?, count))?;
+            output.flush()?;
+            Ok(true)
         }
         ["program"] => {
             program::run(io::stdin().lock(), output)?;

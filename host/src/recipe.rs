@@ -13,7 +13,7 @@ mod polish;
 pub(crate) mod rng;
 mod rules;
 mod underlying;
-mod values;
+pub(crate) mod values;
 mod world;
 
 use std::collections::VecDeque;

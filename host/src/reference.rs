@@ -15,7 +15,7 @@ mod underlying;
 mod verdict;
 
 pub use calendar::{Day, Moment, MICROS};
-pub use forms::{Decimal, Price, Quantity};
+pub use forms::{price, quantity, signed_amount, Decimal, Price, Quantity};
 pub use lists::{Lists, VenueKinds};
 pub use register::{Pair, Register, Standing};
 

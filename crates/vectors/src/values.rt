@@ -139,7 +139,7 @@ fn below_zero(n: u64) -> i64 {
     -((n % 1000000000000000000) as i64)
 }
 
-// The mantissa is the number, written with a minus where it is below zero.
+// A number is written with a minus where it is below zero.
 fn is_mantissa(d: Decimal, written: &[u8]) -> bool {
     if text::starts_with(written, b"-") {
         return d.mantissa == below_zero(text::number_in(text::rest(written, 1)));
@@ -147,47 +147,43 @@ fn is_mantissa(d: Decimal, written: &[u8]) -> bool {
     d.mantissa == (text::number_in(written) % 1000000000000000000) as i64
 }
 
-// price_kind, price_is.NUMBER and price_places on cell 33.
+// NAME.NUMBER.PLACES: the whole number and the places.
+fn is_as_called(d: Decimal, call: &[u8]) -> bool {
+    is_mantissa(d, word(call, 1)) & (d.places as u64 == text::number_in(word(call, 2)))
+}
+
+// price_kind and price_is.NUMBER.PLACES on cell 33.
 fn of_price(call: &[u8], input: &[u8]) -> u64 {
     let price = amount::parse_price(input);
     if text::same(call, b"price_kind") {
         return amount::price_kind(price) as u64;
     }
     if text::starts_with(call, b"price_is.") {
-        return yes(is_mantissa(price_decimal(price), text::rest(call, 9)));
-    }
-    if text::same(call, b"price_places") {
-        return price_decimal(price).places as u64;
+        return yes(is_as_called(price_decimal(price), call));
     }
     UNKNOWN
 }
 
-// quantity_kind, quantity_is.NUMBER and quantity_places on cell 30.
+// quantity_kind and quantity_is.NUMBER.PLACES on cell 30.
 fn of_quantity(call: &[u8], input: &[u8]) -> u64 {
     let quantity = amount::parse_quantity(input);
     if text::same(call, b"quantity_kind") {
         return amount::quantity_kind(quantity) as u64;
     }
     if text::starts_with(call, b"quantity_is.") {
-        return yes(is_mantissa(quantity_decimal(quantity), text::rest(call, 12)));
-    }
-    if text::same(call, b"quantity_places") {
-        return quantity_decimal(quantity).places as u64;
+        return yes(is_as_called(quantity_decimal(quantity), call));
     }
     of_price(call, input)
 }
 
-// signed_18_5_19, signed_is.NUMBER and signed_places on cell 38.
+// signed_18_5_19 and signed_is.NUMBER.PLACES on cell 38.
 fn of_signed(call: &[u8], input: &[u8]) -> u64 {
     let signed = amount::parse_signed(input, 5);
     if text::same(call, b"signed_18_5_19") {
         return yes(amount::signed_kind(signed) != 0);
     }
     if text::starts_with(call, b"signed_is.") {
-        return yes(is_mantissa(signed_decimal(signed), text::rest(call, 10)));
-    }
-    if text::same(call, b"signed_places") {
-        return signed_decimal(signed).places as u64;
+        return yes(is_as_called(signed_decimal(signed), call));
     }
     of_quantity(call, input)
 }

@@ -34,12 +34,12 @@ const OTHER_WORDS: &[&str] = &[
 
 /// D(n, f, m) behind a prefix, and whether a sign may come first.
 #[derive(Clone, Copy)]
-struct Amount {
-    prefix: &'static str,
-    n: usize,
-    f: usize,
-    m: usize,
-    signed: bool,
+pub struct Amount {
+    pub prefix: &'static str,
+    pub n: usize,
+    pub f: usize,
+    pub m: usize,
+    pub signed: bool,
 }
 
 const fn unsigned(prefix: &'static str, n: usize, f: usize, m: usize) -> Amount {
@@ -51,7 +51,7 @@ const fn signed(prefix: &'static str, n: usize, f: usize, m: usize) -> Amount {
 }
 
 /// The decimal forms of a cell.
-fn decimals(cell: usize) -> &'static [Amount] {
+pub fn decimals(cell: usize) -> &'static [Amount] {
     const QUANTITIES: &[Amount] =
         &[unsigned("UNT:", 18, 17, 19), unsigned("NOM:", 18, 5, 19), unsigned("MON:", 18, 5, 19)];
     const PRICES: &[Amount] = &[
@@ -153,6 +153,7 @@ fn well_decimal(rng: &mut Rng, Amount { n, f, m, signed, .. }: Amount) -> Vec<u8
     text
 }
 
+/// What is malformed whatever its digits are: zeros in place of some do not mend it.
 fn bad_decimal(rng: &mut Rng, Amount { n, f, m, signed, .. }: Amount) -> Vec<u8> {
     let number = |rng: &mut Rng, before: usize, places: usize| {
         [rng.text(DIGITS, before), b".".to_vec(), rng.text(DIGITS, places)].concat()
@@ -185,6 +186,30 @@ fn bad_decimal(rng: &mut Rng, Amount { n, f, m, signed, .. }: Amount) -> Vec<u8>
         text.insert(0, rng.of(b"+-"));
     }
     text
+}
+
+/// Zeros for all digits of a text.
+fn to_zeros(text: &mut [u8]) {
+    text.iter_mut().filter(|byte| byte.is_ascii_digit()).for_each(|digit| *digit = b'0');
+}
+
+/// Zeros for some digits of a number: for those in front, those at the end, or all. Its form stays what it is.
+fn zeroed(rng: &mut Rng, mut number: Vec<u8>) -> Vec<u8> {
+    let edge = rng.below(number.len() + 1);
+    match rng.below(4) {
+        0 => to_zeros(&mut number[..edge]),
+        1 => to_zeros(&mut number[edge..]),
+        _ => to_zeros(&mut number),
+    }
+    number
+}
+
+/// Another digit than zero in a number that is zero: the last one or any.
+fn with_a_digit(rng: &mut Rng, mut number: Vec<u8>) -> Vec<u8> {
+    let digits: Vec<usize> = (0..number.len()).filter(|&place| number[place].is_ascii_digit()).collect();
+    let place = if rng.one_in(2) { digits[digits.len() - 1] } else { rng.of(&digits) };
+    number[place] = rng.of(b"159");
+    number
 }
 
 const WELL_DATES: &[&str] = &[
@@ -422,25 +447,19 @@ fn well_moment(rng: &mut Rng) -> Vec<u8> {
 
 /// Cells 30, 33, 35, 38, 46 and 51.
 fn well_amount(rng: &mut Rng, cell: usize) -> Vec<u8> {
-    loop {
-        if (cell == 33 || cell == 51) && rng.one_in(4) {
-            return rng.of(&["PNDG", "NOAP"]).as_bytes().to_vec();
-        }
-        let form = rng.of(decimals(cell));
-        let mut number = well_decimal(rng, form);
-        // Zeros, also in front.
-        if rng.one_in(4) {
-            number.iter_mut().filter(|byte| byte.is_ascii_digit()).for_each(|digit| *digit = b'0');
-            if form.prefix == "UNT:" {
-                let last = number.iter().rposition(u8::is_ascii_digit).expect("a digit");
-                number[last] = b'1';
-            }
-        }
-        // Units are not zero.
-        if form.prefix != "UNT:" || number.iter().any(|byte| (b'1'..=b'9').contains(byte)) {
-            return [form.prefix.as_bytes(), &number].concat();
-        }
+    if (cell == 33 || cell == 51) && rng.one_in(4) {
+        return rng.of(&["PNDG", "NOAP"]).as_bytes().to_vec();
     }
+    let form = rng.of(decimals(cell));
+    let mut number = well_decimal(rng, form);
+    if rng.one_in(2) {
+        number = zeroed(rng, number);
+    }
+    // Units are not zero.
+    if form.prefix == "UNT:" && !number.iter().any(|byte| (b'1'..=b'9').contains(byte)) {
+        number = with_a_digit(rng, number);
+    }
+    [form.prefix.as_bytes(), &number].concat()
 }
 
 /// Cell 47.
@@ -540,26 +559,22 @@ pub fn bad_index_text(rng: &mut Rng) -> Vec<u8> {
     spoil(rng, text, is_printable)
 }
 
+/// Units that are zero, in any writing.
+fn zero_units(rng: &mut Rng) -> Vec<u8> {
+    let units = decimals(30)[0];
+    let mut number = well_decimal(rng, units);
+    to_zeros(&mut number);
+    [units.prefix.as_bytes(), &number].concat()
+}
+
 /// Cells 30, 33, 35, 38, 46 and 51.
 fn bad_amount(rng: &mut Rng, cell: usize) -> Vec<u8> {
+    if cell == 30 && rng.one_in(8) {
+        return zero_units(rng);
+    }
     if rng.one_in(6) {
         let wrong: &[&str] = match cell {
-            30 => &[
-                "UNT:0",
-                "UNT:0.0",
-                "UNT:000000000000000000",
-                "UNT:0.",
-                "UNT:0.00000000000000000",
-                "UNT",
-                "1",
-                "unt:1",
-                "NOM",
-                "MON",
-                "NOM:-1",
-                "UNT:+1",
-                "QTY:1",
-                "MON1",
-            ],
+            30 => &["UNT:0", "UNT:0.", "UNT", "1", "unt:1", "NOM", "MON", "NOM:-1", "UNT:+1", "QTY:1", "MON1"],
             33 | 51 => &[
                 "PNDG:", "NOAP ", "pndg", "1", "MV", "MV1", "PC", "PC1", "mv:1", "BP", "YLD", "YLD:-1", "BP:+1",
                 "PC:-0", "PNDGX", "NOA", "MV::1",
@@ -570,7 +585,12 @@ fn bad_amount(rng: &mut Rng, cell: usize) -> Vec<u8> {
     }
     loop {
         let form = rng.of(decimals(cell));
-        let value = [form.prefix.as_bytes(), &bad_decimal(rng, form)].concat();
+        let mut number = bad_decimal(rng, form);
+        // Also too long by zeros alone.
+        if rng.one_in(3) {
+            number = zeroed(rng, number);
+        }
+        let value = [form.prefix.as_bytes(), &number].concat();
         // A blank cell would not be malformed.
         if !value.is_empty() {
             return value;

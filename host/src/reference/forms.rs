@@ -194,14 +194,22 @@ pub fn executor(cell: &[u8]) -> Option<Party<'_>> {
     }
 }
 
-/// A decimal number: a whole number and how many of its digits stand after the point.
+/// A decimal number: a whole number and how many of its digits stand after the point. These are the fewest that lose
+/// nothing, so equal amounts are the same here, however they are written; zero has none.
 #[derive(Clone, Copy, Debug, PartialEq, Eq)]
 pub struct Decimal {
     pub digits: i64,
     pub places: u32,
 }
 
-/// D(whole, fraction, longest) of the paper. No form allows more than 18 digits.
+/// What stands behind the point, without the zeros at its end: they add nothing to the number.
+fn without_zeros_at_the_end(after: &[u8]) -> &[u8] {
+    let kept = after.iter().rposition(|&digit| digit != b'0').map_or(0, |last| last + 1);
+    &after[..kept]
+}
+
+/// D(whole, fraction, longest) of the paper. The form is judged as written, with all zeros. No form allows more than 18
+/// digits.
 fn decimal(text: &[u8], whole: usize, fraction: usize, longest: usize) -> Option<Decimal> {
     let (before, after) = match text.iter().position(|&byte| byte == b'.') {
         None => (text, &text[text.len()..]),
@@ -211,6 +219,8 @@ fn decimal(text: &[u8], whole: usize, fraction: usize, longest: usize) -> Option
     if before.is_empty() || before.len() > whole || after.len() > fraction {
         return None;
     }
+    // Only zeros are left out: what is no digit is still met below.
+    let after = without_zeros_at_the_end(after);
     let digits = before
         .iter()
         .chain(after)
@@ -218,7 +228,7 @@ fn decimal(text: &[u8], whole: usize, fraction: usize, longest: usize) -> Option
     Some(Decimal { digits, places: after.len() as u32 })
 }
 
-/// The same, after at most one sign.
+/// The same, after at most one sign. Zero stays zero behind a minus, for there is but one whole number 0.
 fn signed(text: &[u8], whole: usize, fraction: usize, longest: usize) -> Option<Decimal> {
     match text {
         [b'-', rest @ ..] => {
@@ -393,8 +403,7 @@ mod tests {
     #[test]
     fn decimals() {
         let units = |text: &str| quantity(format!("UNT:{text}").as_bytes());
-        assert_eq!(units("5."), Some(Quantity::Units(Decimal { digits: 5, places: 0 })));
-        assert_eq!(units(".5"), None);
+        assert!(units("5.").is_some() && units(".5").is_none());
         assert!(units("0").is_none() && units("0.000").is_none() && units("0.0001").is_some());
         assert!(units("999999999999999999").is_some() && units("1000000000000000000").is_none());
         assert!(units("1.00000000000000000").is_some() && units("1.000000000000000000").is_none());
@@ -404,18 +413,165 @@ mod tests {
         );
         assert!(price(b"YLD:1234567890.1").is_some() && price(b"YLD:12345678901.1").is_none());
         assert!(price(b"YLD:12345678901.").is_some() && price(b"YLD:123456789012").is_none());
-        assert_eq!(price(b"MV:-1.5"), Some(Price::Money(Decimal { digits: -15, places: 1 })));
-        assert_eq!(price(b"MV:-0"), Some(Price::Money(Decimal { digits: 0, places: 0 })));
-        assert_eq!(
-            price(b"MV:-999999999999999999"),
-            Some(Price::Money(Decimal { digits: -999_999_999_999_999_999, places: 0 }))
-        );
         for wrong in
             ["MV:-", "MV:+-1", "MV:--1", "PC:+1", "PC:1.2.3", "PC:", "MV", "BP:1e5", "MV:1 ", "MV:.5", "MV:-.5"]
         {
             assert!(price(wrong.as_bytes()).is_none(), "{wrong}");
         }
         assert!(signed_amount(b"+1.").is_some() && amount(b"+1.").is_none() && multiplier(b"-1").is_none());
+    }
+
+    /// Zeros that lose nothing count all the same where the form is judged.
+    #[test]
+    fn forms_are_judged_as_written() {
+        let (most, too_many) = ("0".repeat(17), "0".repeat(18));
+        for whole in ["0", "1", "5"] {
+            assert!(multiplier(format!("{whole}.{most}").as_bytes()).is_some(), "{whole}");
+            assert!(multiplier(format!("{whole}.{too_many}").as_bytes()).is_none(), "{whole}");
+        }
+        assert!(multiplier(format!("{most}1").as_bytes()).is_some());
+        assert!(multiplier(format!("{too_many}1").as_bytes()).is_none());
+        assert!(multiplier(format!("{too_many}.").as_bytes()).is_some());
+        assert!(multiplier(format!("{too_many}.0").as_bytes()).is_none());
+        assert!(amount(b"1.50000").is_some() && amount(b"1.500000").is_none());
+        assert!(signed_amount(b"-0.00000").is_some() && signed_amount(b"-0.000000").is_none());
+        assert!(price(b"YLD:1.0000000000").is_some() && price(b"YLD:01.0000000000").is_none());
+        assert!(price(b"PC:1.50a").is_none() && price(b"PC:1.5a0").is_none() && price(b"PC:1.0.0").is_none());
+        for zero in ["0", "00", "0.", "0.0", "000.000", "0.00000000000000000", "000000000000000000"] {
+            assert!(quantity(format!("UNT:{zero}").as_bytes()).is_none(), "{zero}");
+            assert!(price(format!("BP:{zero}").as_bytes()).is_some(), "{zero}");
+        }
+        assert!(quantity(b"UNT:1.0").is_some() && quantity(b"UNT:10").is_some() && quantity(b"UNT:0.10").is_some());
+    }
+
+    /// The whole number and the places of a text without a sign, and of one that may have a sign.
+    fn held(text: &str) -> Option<(i64, u32)> {
+        multiplier(text.as_bytes()).map(|decimal| (decimal.digits, decimal.places))
+    }
+
+    fn held_with_sign(text: &str) -> Option<(i64, u32)> {
+        signed(text.as_bytes(), 18, 17, 19).map(|decimal| (decimal.digits, decimal.places))
+    }
+
+    #[test]
+    fn equal_amounts_have_one_form() {
+        for same in ["1.5", "1.50", "01.500", "001.5", "1.50000000000000000", "0000000000000001.50"] {
+            assert_eq!(held(same), Some((15, 1)), "{same}");
+            assert_eq!(held_with_sign(&format!("+{same}")), Some((15, 1)), "{same}");
+            assert_eq!(held_with_sign(&format!("-{same}")), Some((-15, 1)), "{same}");
+        }
+        for same in ["5", "5.", "05", "5.0", "5.00000000000000000", "000000000000000005", "00000000000000005.0"] {
+            assert_eq!(held(same), Some((5, 0)), "{same}");
+        }
+        for same in ["0.5", "00.5", "0.50", "0.50000000000000000"] {
+            assert_eq!(held(same), Some((5, 1)), "{same}");
+        }
+    }
+
+    /// The zeros of a whole number are kept: there are never fewer places than none.
+    #[test]
+    fn whole_numbers_keep_their_zeros() {
+        for same in ["10", "10.", "10.0", "010.00", "10.0000000000000000"] {
+            assert_eq!(held(same), Some((10, 0)), "{same}");
+        }
+        for same in ["100", "100.", "100.0", "0100.000"] {
+            assert_eq!(held(same), Some((100, 0)), "{same}");
+            assert_eq!(held_with_sign(&format!("-{same}")), Some((-100, 0)), "{same}");
+        }
+        for same in ["100000000000000000", "100000000000000000."] {
+            assert_eq!(held(same), Some((100_000_000_000_000_000, 0)), "{same}");
+        }
+        assert_eq!(held("10000000000000000.0"), Some((10_000_000_000_000_000, 0)));
+        assert_eq!(held("10.5"), Some((105, 1)));
+        assert_eq!(held("100.10"), Some((1001, 1)));
+    }
+
+    #[test]
+    fn zeros_among_the_digits_stay() {
+        for same in ["1.05", "1.050", "1.0500", "01.05"] {
+            assert_eq!(held(same), Some((105, 2)), "{same}");
+        }
+        assert_eq!(held("1.005"), Some((1005, 3)));
+        assert_eq!(held("10.0203000"), Some((100_203, 4)));
+        assert_eq!(held("0.05"), Some((5, 2)));
+        assert_eq!(held("0.0500"), Some((5, 2)));
+        assert_eq!(held("1.00000000000000001"), Some((100_000_000_000_000_001, 17)));
+        assert_eq!(held("1.00000000000000010"), Some((10_000_000_000_000_001, 16)));
+    }
+
+    #[test]
+    fn zero_is_one() {
+        for zero in ["0", "0.", "0.0", "0.00", "00", "000.000", "0.00000000000000000", "000000000000000000"] {
+            assert_eq!(held(zero), Some((0, 0)), "{zero}");
+            for sign in ["", "+", "-"] {
+                assert_eq!(held_with_sign(&format!("{sign}{zero}")), Some((0, 0)), "{sign}{zero}");
+            }
+        }
+        for signs in ["--0", "+-0", "-+0.0", "-", "+", "-.0", "0-", "0.-0"] {
+            assert_eq!(held_with_sign(signs), None, "{signs}");
+        }
+    }
+
+    #[test]
+    fn decimals_at_their_ends() {
+        // 17 places, 16 and one too many.
+        assert_eq!(held("0.00000000000000001"), Some((1, 17)));
+        assert_eq!(held("0.00000000000000010"), Some((1, 16)));
+        assert_eq!(held("0.000000000000000001"), None);
+        assert_eq!(held("0.000000000000000010"), None);
+        assert_eq!(held("9.99999999999999999"), Some((999_999_999_999_999_999, 17)));
+        assert_eq!(held("9.99999999999999990"), Some((99_999_999_999_999_999, 16)));
+        // 18 digits, 17 and one too many.
+        assert_eq!(held("123456789012345678"), Some((123_456_789_012_345_678, 0)));
+        assert_eq!(held("12345678901234567.0"), Some((12_345_678_901_234_567, 0)));
+        assert_eq!(held("12345678901234567.8"), Some((123_456_789_012_345_678, 1)));
+        assert_eq!(held("1234567890123456789"), None);
+        assert_eq!(held("0123456789012345678"), None);
+        assert_eq!(held("123456789012345678.0"), None);
+        // The greatest numbers and the least, below zero too.
+        for (sign, one) in [("", 1), ("+", 1), ("-", -1)] {
+            let of = |number: &str| held_with_sign(&format!("{sign}{number}"));
+            let nines = one * 999_999_999_999_999_999;
+            assert_eq!(of("999999999999999999"), Some((nines, 0)));
+            assert_eq!(of("999999999999999999."), Some((nines, 0)));
+            assert_eq!(of("9.99999999999999999"), Some((nines, 17)));
+            assert_eq!(of("0.00000000000000001"), Some((one, 17)));
+            assert_eq!(of("1000000000000000000"), None);
+        }
+    }
+
+    /// Every cell that holds a decimal holds it in its one form.
+    #[test]
+    fn all_amounts_follow() {
+        let one_and_a_half = Decimal { digits: 15, places: 1 };
+        let below = Decimal { digits: -15, places: 1 };
+        let zero = Decimal { digits: 0, places: 0 };
+        for text in ["1.5", "1.50", "01.500"] {
+            let behind = |prefix: &str| [prefix, text].concat().into_bytes();
+            assert_eq!(quantity(&behind("UNT:")), Some(Quantity::Units(one_and_a_half)));
+            assert_eq!(quantity(&behind("NOM:")), Some(Quantity::Nominal(one_and_a_half)));
+            assert_eq!(quantity(&behind("MON:")), Some(Quantity::Monetary(one_and_a_half)));
+            assert_eq!(price(&behind("PC:")), Some(Price::Percent(one_and_a_half)));
+            assert_eq!(price(&behind("MV:")), Some(Price::Money(one_and_a_half)));
+            assert_eq!(price(&behind("MV:+")), Some(Price::Money(one_and_a_half)));
+            assert_eq!(price(&behind("MV:-")), Some(Price::Money(below)));
+            assert_eq!(price(&behind("YLD:")), Some(Price::Yield(one_and_a_half)));
+            assert_eq!(price(&behind("BP:")), Some(Price::BasisPoints(one_and_a_half)));
+            assert_eq!(amount(text.as_bytes()), Some(one_and_a_half));
+            assert_eq!(multiplier(text.as_bytes()), Some(one_and_a_half));
+            assert_eq!(signed_amount(text.as_bytes()), Some(one_and_a_half));
+            assert_eq!(signed_amount(&behind("-")), Some(below));
+        }
+        for text in ["0", "-0", "+0.", "-0.00", "-000.00000"] {
+            assert_eq!(price(format!("MV:{text}").as_bytes()), Some(Price::Money(zero)), "{text}");
+            assert_eq!(signed_amount(text.as_bytes()), Some(zero), "{text}");
+        }
+        let least = Decimal { digits: -1, places: 13 };
+        assert_eq!(price(b"MV:-0.0000000000001"), Some(Price::Money(least)));
+        assert_eq!(price(b"MV:-0.00000000000010"), None);
+        let greatest = Decimal { digits: -999_999_999_999_999_999, places: 0 };
+        assert_eq!(price(b"MV:-999999999999999999"), Some(Price::Money(greatest)));
+        assert_eq!(price(b"MV:-99999.9999999999999"), Some(Price::Money(Decimal { places: 13, ..greatest })));
     }
 
     #[test]
