@@ -9,7 +9,6 @@ use Rattle.text.specs.Ascii.{ascii}
 use Rattle.text.specs.Class.{allOf}
 use Rattle.text.specs.Number.{digitOf, numeral, numberOf}
 use Rattle.text.specs.Word.{startsWith}
-use Rattle.amount.specs.declared.Signed.{Signed}
 use Rattle.amount.specs.declared.Signed.the-variants.{Amount, Malformed}
 use Rattle.amount.specs.Decimal.{pointAt, whole, decimals, isDecimal, withoutLastZeros, fewestDecimals, valueOf}
 use Rattle.amount.specs.Signed.{behindSign, isSigned, signedValueOf, signedOf, signedKind}

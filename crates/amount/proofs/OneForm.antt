@@ -1,18 +1,19 @@
 -- Equal amounts have one form: what is read of a text has the value that is written, in the fewest places.
-use mathlib.Core.Path.{_≡_, refl, sym}
-use mathlib.Core.Bool.{Bool, true, false, cond, _&&_, _||_}
+use mathlib.Core.Path.{_≡_, _∙_, refl}
+use mathlib.Core.Bool.{Bool, true, false, cond, _&&_}
 use mathlib.Core.List.{List}
 use mathlib.Core.Logic.{⊎-elim}
 use Prim.Native.Nat.{ℕ, _+_, _≤_}
 use native.Mathlib.Omega.{arith}
 use borrow.Author.Tests.{eqb-true}
 use lib.Dec.{leb, eqb, lit≤}
+use lib.IntN.{pos}
 use lib.ListN.{length, drop, drop-of-length-le}
 use Rattle.text.specs.Ascii.{ascii}
 use Rattle.text.specs.declared.classes.Class.the-variants.{Digit}
 use Rattle.text.specs.Class.{allOf, runOf}
 use Rattle.text.specs.Word.{same, startsWith}
-use Rattle.text.proofs.Bools.{and-left, and-right, or-cases}
+use Rattle.text.proofs.Bools.{and-right, or-cases}
 use Rattle.amount.specs.declared.Decimal.{Decimal}
 use Rattle.amount.specs.declared.Signed.{Signed}
 use Rattle.amount.specs.declared.Signed.the-variants.{Amount, Malformed as NoAmount}
@@ -23,8 +24,8 @@ use Rattle.amount.specs.declared.Quantity.the-variants.{Units, Nominal, 
 use Rattle.amount.specs.Decimal.{pointAt, whole, decimals, isDecimal, digitsOf, fewestDecimals, decimalOf, valueOf, isZero, tagged}
 use Rattle.amount.specs.Signed.{behindSign, isSigned, negated, signedValueOf, signedOf}
 use Rattle.amount.specs.Price.{moneyOf, priceOf}
-use Rattle.amount.specs.Quantity.{unitsOf, quantityOf}
-use Rattle.amount.proofs.ValueLaws.{SameValue, Fewest, Short, short-fewest, equal-one, one-equal, negated-same, negated-short, same-zero}
+use Rattle.amount.specs.Quantity.{quantityOf}
+use Rattle.amount.proofs.ValueLaws.{SameValue, Fewest, Short, short-fewest, equal-one, one-equal, negated-same, negated-short, same-zero, short-zero}
 use Rattle.amount.proofs.LastZeros.{digits-same, digits-short}
 use Rattle.amount.proofs.DecimalLaws.{whole-length, few-digits}
 
@@ -76,6 +77,9 @@ module _ {s : List ℕ} (u : InUse isDecimal s) where
   pub zero-written : isZero (valueOf s) ≡ isZero (written s)
   zero-written = same-zero value-same
 
+  pub zero-form : isZero (written s) ≡ true → valueOf s ≡ record { mantissa = pos 0; places = 0 }
+  zero-form e = short-zero (valueOf s) value-short (zero-written ∙ e)
+
 module _ {s : List ℕ} (u : InUse isSigned s) where
   behind : InUse isDecimal (behindSign s)
   unfolding isSigned
@@ -99,6 +103,9 @@ module _ {s : List ℕ} (u : InUse isSigned s) where
 
   pub signed-fewest : Fewest (signedValueOf s) (signedWritten s)
   signed-fewest = short-fewest signed-same signed-value-short
+
+  pub signed-zero-form : isZero (signedWritten s) ≡ true → signedValueOf s ≡ record { mantissa = pos 0; places = 0 }
+  signed-zero-form e = short-zero (signedValueOf s) signed-value-short (same-zero signed-same ∙ e)
 
 -- two texts give the same decimal exactly if they are equal in value
 pub one-form : {s t : List ℕ} → InUse isDecimal s → InUse isDecimal t → (SameValue (written s) (written t) → valueOf s ≡ valueOf t) × (valueOf s ≡ valueOf t → SameValue (written s) (written t))

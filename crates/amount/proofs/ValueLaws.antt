@@ -1,8 +1,8 @@
 -- Equal amounts. A decimal stands for its mantissa over 10 to the power of its places; two are compared multiplied out, so nothing is divided.
 use mathlib.Core.Path.{_≡_, _∙_, refl, sym, ap}
-use mathlib.Core.Bool.{Bool, true, false, true≢false}
+use mathlib.Core.Bool.{true, false, true≢false}
 use mathlib.Core.Logic.{_⊎_, inl, inr, ⊎-elim}
-use Prim.Native.Nat.{ℕ, zero, suc, _+_, _*_, _^_, _≤_, _<_}
+use Prim.Native.Nat.{ℕ, zero, suc, _*_, _^_, _≤_, _<_}
 use native.Mathlib.Nat.{pow-suc, one-le-pow, zero-mul, mul-one, mul-pos, mul-right-comm, mul-assoc, eq-of-mul-eq-mul-right}
 use native.Mathlib.Omega.{arith}
 use borrow.Author.Tests.{eqb-true, ne-eqb}
@@ -136,8 +136,8 @@ same-zero {d} {e} h = go (natAbs (d .mantissa)) (natAbs (e .mantissa)) (10 ^ e .
     go (suc a) (suc b) x y p q f = ne-eqb (suc a) 0 (λ z. omega (arith, z)) ∙ sym (ne-eqb (suc b) 0 (λ z. omega (arith, z)))
 
 -- zero has no place and no sign
-pub zero-form : (d : Decimal) → Short d → isZero d ≡ true → d ≡ record { mantissa = pos 0; places = 0 }
-zero-form d s e = λ i. record { mantissa = no-size (d .mantissa) none i; places = no-place i }
+pub short-zero : (d : Decimal) → Short d → isZero d ≡ true → d ≡ record { mantissa = pos 0; places = 0 }
+short-zero d s e = λ i. record { mantissa = no-size (d .mantissa) none i; places = no-place i }
   where
     none : natAbs (d .mantissa) ≡ 0
     none = eqb-true (natAbs (d .mantissa)) 0 e
