@@ -1,4 +1,4 @@
--- Zeros at the end of digits: they are found from the end, and leaving them off loses nothing and leaves no fewer places to go to.
+-- Zeros at the end of digits: they are found from the end, and behind a point the digits without them have the same value in the fewest places.
 use mathlib.Core.Path.{_≡_, _∙_, refl, sym, ap}
 use mathlib.Core.Bool.{Bool, true, false, cond, _&&_, true≢false}
 use mathlib.Core.List.{List, [], _∷_, _++_}

@@ -1,11 +1,11 @@
 -- Equal amounts have one form: what is read of a text has the value that is written, in the fewest places.
-use mathlib.Core.Path.{_≡_, _∙_, refl}
-use mathlib.Core.Bool.{Bool, true, false, cond, _&&_}
-use mathlib.Core.List.{List}
+use mathlib.Core.Path.{_≡_, _∙_, refl, sym}
+use mathlib.Core.Bool.{Bool, true, false, cond, not, _&&_}
+use mathlib.Core.List.{List, [], _∷_}
 use mathlib.Core.Logic.{⊎-elim}
 use Prim.Native.Nat.{ℕ, _+_, _≤_}
 use native.Mathlib.Omega.{arith}
-use borrow.Author.Tests.{eqb-true}
+use borrow.Author.Tests.{eqb-true, ne-eqb}
 use lib.Dec.{leb, eqb, lit≤}
 use lib.IntN.{pos}
 use lib.ListN.{length, drop, drop-of-length-le}
@@ -13,7 +13,7 @@ use Rattle.text.specs.Ascii.{ascii}
 use Rattle.text.specs.declared.classes.Class.the-variants.{Digit}
 use Rattle.text.specs.Class.{allOf, runOf}
 use Rattle.text.specs.Word.{same, startsWith}
-use Rattle.text.proofs.Bools.{and-right, or-cases}
+use Rattle.text.proofs.Bools.{and-left, and-right, or-cases, by-test}
 use Rattle.amount.specs.declared.Decimal.{Decimal}
 use Rattle.amount.specs.declared.Signed.{Signed}
 use Rattle.amount.specs.declared.Signed.the-variants.{Amount, Malformed as NoAmount}
@@ -24,7 +24,7 @@ use Rattle.amount.specs.declared.Quantity.the-variants.{Units, Nominal, 
 use Rattle.amount.specs.Decimal.{pointAt, whole, decimals, isDecimal, digitsOf, fewestDecimals, decimalOf, valueOf, isZero, tagged}
 use Rattle.amount.specs.Signed.{behindSign, isSigned, negated, signedValueOf, signedOf}
 use Rattle.amount.specs.Price.{moneyOf, priceOf}
-use Rattle.amount.specs.Quantity.{quantityOf}
+use Rattle.amount.specs.Quantity.{quantityOf, quantityKind}
 use Rattle.amount.proofs.ValueLaws.{SameValue, Fewest, Short, short-fewest, equal-one, one-equal, negated-same, negated-short, same-zero, short-zero}
 use Rattle.amount.proofs.LastZeros.{digits-same, digits-short}
 use Rattle.amount.proofs.DecimalLaws.{whole-length, few-digits}
@@ -138,9 +138,12 @@ chosen : {A : Type 0} (P : A → Type 0) (t : Bool) {x y : A} → (t ≡ true �
 chosen P true p q = p refl
 chosen P false p q = q
 
-tagged-short : (n f m : ℕ) (word s : List ℕ) → tagged word n f m s ≡ true → n ≤ 18 → m ≤ 19 → Short (valueOf (drop (length word) s))
+tag-in-use : (n f m : ℕ) (word s : List ℕ) → tagged word n f m s ≡ true → n ≤ 18 → m ≤ 19 → InUse isDecimal (drop (length word) s)
 unfolding tagged
-tagged-short n f m word s e h k = value-short (record { n = n; f = f; m = m; is = and-right (startsWith word s) _ e; few = h; short = k })
+tag-in-use n f m word s e h k = record { n = n; f = f; m = m; is = and-right (startsWith word s) _ e; few = h; short = k }
+
+tagged-short : (n f m : ℕ) (word s : List ℕ) → tagged word n f m s ≡ true → n ≤ 18 → m ≤ 19 → Short (valueOf (drop (length word) s))
+tagged-short n f m word s e h k = value-short (tag-in-use n f m word s e h k)
 
 -- each is in its one form
 pub signed-short : (f : ℕ) (s : List ℕ) → InSigned Short (signedOf f s)
@@ -168,3 +171,34 @@ quantity-short s =
     (λ e. chosen (InQuantity Short) (isZero (valueOf (drop 4 s))) (λ z. tt) (tagged-short 18 17 19 (ascii "UNT:") s e (lit≤ tt) (lit≤ tt)))
     (chosen (InQuantity Short) (tagged (ascii "NOM:") 18 5 19 s) (λ e. tagged-short 18 5 19 (ascii "NOM:") s e (lit≤ tt) (lit≤ tt))
     (chosen (InQuantity Short) (tagged (ascii "MON:") 18 5 19 s) (λ e. tagged-short 18 5 19 (ascii "MON:") s e (lit≤ tt) (lit≤ tt)) tt))
+
+-- a text that opens with one letter opens with no word of another
+other-tag : (x y n f m : ℕ) (v w s : List ℕ) → (x ≡ y → ⊥) → startsWith (x ∷ v) s ≡ true → tagged (y ∷ w) n f m s ≡ false
+unfolding tagged startsWith
+other-tag x y n f m v w [] h e = refl
+other-tag x y n f m v w (b ∷ s) h e =
+    let here : b ≡ x = eqb-true b x (and-left (eqb b x) _ e) in
+    rw (ne-eqb b y (λ p. h (sym here ∙ p)))
+
+-- the kind of a quantity goes by what is written: UNT: and not zero, NOM:, MON:
+pub quantity-kinds : (s : List ℕ) → quantityKind (quantityOf s) ≡ cond (tagged (ascii "UNT:") 18 17 19 s && not (isZero (written (drop 4 s)))) 2 (cond (tagged (ascii "NOM:") 18 5 19 s) 3 (cond (tagged (ascii "MON:") 18 5 19 s) 4 0))
+unfolding quantityOf tagged
+quantity-kinds s =
+    by-test (tagged (ascii "UNT:") 18 17 19 s)
+    (λ e. rw (e, zero-written (tag-in-use 18 17 19 (ascii "UNT:") s e (lit≤ tt) (lit≤ tt)), no-nominal e, no-monetary e) (units (isZero (written (drop 4 s)))))
+    (λ e. rw e (others (tagged (ascii "NOM:") 18 5 19 s) (tagged (ascii "MON:") 18 5 19 s)))
+  where
+    no-nominal : tagged (ascii "UNT:") 18 17 19 s ≡ true → tagged (ascii "NOM:") 18 5 19 s ≡ false
+    no-nominal e = other-tag 85 78 18 5 19 _ _ s (λ p. omega (arith, p)) (and-left (startsWith (ascii "UNT:") s) _ e)
+
+    no-monetary : tagged (ascii "UNT:") 18 17 19 s ≡ true → tagged (ascii "MON:") 18 5 19 s ≡ false
+    no-monetary e = other-tag 85 77 18 5 19 _ _ s (λ p. omega (arith, p)) (and-left (startsWith (ascii "UNT:") s) _ e)
+
+    units : (t : Bool) → quantityKind (cond t NoQuantity (Units (valueOf (drop 4 s)))) ≡ cond (not t) 2 0
+    units true = refl
+    units false = refl
+
+    others : (t u : Bool) → quantityKind (cond t (Nominal (valueOf (drop 4 s))) (cond u (Monetary (valueOf (drop 4 s))) NoQuantity)) ≡ cond t 3 (cond u 4 0)
+    others true u = refl
+    others false true = refl
+    others false false = refl
