@@ -1,9 +1,9 @@
 /*
- * Boanhetri: one transaction report line of MiFIR Article 26, judged.
+ * Boanhetri: one transaction report line of MiFIR Article 26, judged; and a register of version 1, converted to version 2.
  *
  * Link with libcapi.a, for x86-64 Linux. Of the C library it uses memcpy and memset alone.
  *
- * What the function does is proved of its source, for every input that keeps the duties below. Nothing proves this header:
+ * What the functions do is proved of their source, for every input that keeps the duties below. Nothing proves this header:
  * it is written by hand, and tests/c holds it to the library.
  */
 #ifndef BOANHETRI_H
@@ -31,7 +31,8 @@ enum boanhetri_answer {
     BOANHETRI_CCY_LIST = 3,
     BOANHETRI_VEN_LIST = 4,
     BOANHETRI_INS_LIST = 5,
-    /* The register is under 9 bytes, has another mark or version, or says that more rows are used than fit in it. */
+    /* The register is under 9 bytes, has another mark, a version other than 1 and 2, or says that more rows are used than
+       fit in it. Of a conversion: so is the source, or it is not of version 1. */
     BOANHETRI_REGISTER = 6,
     /* `day` is no real date in 1900 to 9999, or `micro` is over 86399999999. */
     BOANHETRI_MOMENT = 7,
@@ -43,11 +44,13 @@ enum boanhetri_answer {
     BOANHETRI_CELLS = 10,
     /* The line is a NEW one with no finding, its pair is not in the register, and every row that fits is used. With a
        larger register the same call is answered 0. */
-    BOANHETRI_REGISTER_FULL = 11
+    BOANHETRI_REGISTER_FULL = 11,
+    /* Of a conversion alone: the target is too short. */
+    BOANHETRI_TARGET = 12
 };
 
 struct boanhetri_verdict {
-    /* One of the above. Where it is not 0, `count` and `words` are 0, and no byte of the register or the findings buffer
+    /* One of the above but the last. Where it is not 0, `count` and `words` are 0, and no byte of the register or the findings buffer
        has changed. */
     uint16_t answer;
     /* How many findings the line has. 0 with answer 0: the line is accepted. */
@@ -69,9 +72,10 @@ struct boanhetri_verdict {
  *   ven       the list of venues:          mark VEN, rows of 13
  *   ins       the list of instruments:     mark INS, rows of 26
  *             Each list: 3 bytes of mark, 16 bits of version (1), 32 bits of row count, rows. Numbers are little-endian.
- *   reg       the register of pairs:       mark TRN, rows of 74
- *             3 bytes of mark, 16 bits of version (1), 32 bits of rows used, rows. As many rows fit as are whole behind the
- *             9 bytes of head. To begin with, set the head with 0 rows used; the bytes behind it may hold anything.
+ *   reg       the register of pairs:       mark TRN, rows of 74 in version 1 and of 78 in version 2
+ *             3 bytes of mark, 16 bits of version (1 or 2), 32 bits of rows used, rows. As many rows fit as are whole behind
+ *             the 9 bytes of head. To begin with, set the head with 0 rows used; the bytes behind it may hold anything. A row
+ *             of version 2 has, in its last 4 bytes, the day of submission of its pair's last accepted line.
  *   day       the day of submission, as the number yyyymmdd
  *   micro     the microsecond of that day, 0 to 86399999999
  *   polish    whether Polish identifiers are judged, 3307 to 3309: 0 if not, and any other number if they are. Nothing else
@@ -81,7 +85,8 @@ struct boanhetri_verdict {
  * What a call leaves, with answer 0:
  *   findings  the first `count` entries are the codes found, rising, each once; later entries stay as they were.
  *   reg       where `count` is 0, a NEW line has its pair live, in its old row or the next one, and a CXL line has it
- *             cancelled; no other byte changes. Where `count` is over 0, no byte changes.
+ *             cancelled, and both write `day` where the version is 2; no other byte changes, and the version stays. Where
+ *             `count` is over 0, no byte changes.
  *
  * What the caller owes:
  *   - Every pointer is good for its length until the call returns: to read, and for `reg` and `findings` also to write.
@@ -108,6 +113,22 @@ struct boanhetri_verdict boanhetri_judge(
     uint64_t micro,
     uint32_t polish,
     uint16_t *findings, size_t findings_len);
+
+/*
+ * Writes a register of version 1 into another buffer as version 2.
+ *
+ *   from      the source, which is only read
+ *   to        the target, of at least 9 bytes and 78 for each row used
+ *
+ * The answer is BOANHETRI_REGISTER where the source cannot be read as version 1, else BOANHETRI_TARGET where the target is too
+ * short, and no byte has changed; else 0. Then the target begins with a head of version 2 and the same number of rows used,
+ * and the rows stand in their places, each with its pair and state as they are and 0 for its day. What the target held is not
+ * looked at, and its bytes behind the rows stay. It then has room for the rows that fit in it.
+ *
+ * What the caller owes: both pointers are good for their lengths until the call returns, `from` to read and `to` to write; they
+ * do not overlap; nothing else writes to either or reads `to` until then. A length of 0 is allowed, as above.
+ */
+uint16_t boanhetri_convert(const uint8_t *from, size_t from_len, uint8_t *to, size_t to_len);
 
 #ifdef __cplusplus
 }

@@ -17,6 +17,10 @@ _Static_assert(sizeof(struct boanhetri_verdict) == 32, "a verdict is two 16-bit 
 #define ENTITY "00000000000000000098"
 #define OTHER "00000000000000000195"
 
+/* The day of submission where nothing else is said, and the next. */
+#define TODAY 20250322
+#define TOMORROW 20250323
+
 enum { LEI, CTY, CCY, VEN, INS, LISTS };
 
 static const char *const marks[LISTS] = {"LEI", "CTY", "CCY", "VEN", "INS"};
@@ -135,32 +139,42 @@ static void first_cell(struct call *c, const char *cell) {
     line_of(c, cells);
 }
 
+/* The bytes of a row: version 2 has the day behind the state. */
+static size_t row_width(const struct bytes *reg) { return reg->at[3] == 2 ? 78 : 74; }
+
 /* A register with that many rows, none used, of which the bytes are arbitrary. */
-static void empty_register(struct call *c, size_t rows) {
-    begin(&c->reg, "TRN");
-    c->reg.len += 74 * rows;
+static void empty_register(struct bytes *reg, uint8_t version, size_t rows) {
+    begin(reg, "TRN");
+    reg->at[3] = version;
+    reg->len += row_width(reg) * rows;
 }
 
-/* What the register must hold after one more row, or after the state of a row is set. */
+/* What the register must hold after the state of a row is set on a day, or after one more row. */
+static void expect_state(struct bytes *reg, size_t row, uint8_t state, uint32_t day) {
+    uint8_t *at = reg->at + 9 + row_width(reg) * row + 73;
+    at[0] = state;
+    for (size_t i = 1; i <= row_width(reg) - 74; i++) {
+        at[i] = (uint8_t)(day >> (8 * (i - 1)));
+    }
+}
+
 static void expect_row(struct bytes *reg, const char *reference) {
-    uint8_t *row = reg->at + 9 + 74 * reg->at[5];
-    memset(row, 0, 74);
+    uint8_t *row = reg->at + 9 + row_width(reg) * reg->at[5];
+    memset(row, 0, 73);
     memcpy(row, ENTITY, 20);
     row[20] = (uint8_t)strlen(reference);
     memcpy(row + 21, reference, strlen(reference));
-    row[73] = 1;
+    expect_state(reg, reg->at[5], 1, TODAY);
     reg->at[5]++;
 }
-
-static void expect_state(struct bytes *reg, size_t row, uint8_t state) { reg->at[9 + 74 * row + 73] = state; }
 
 /* A call whose line is accepted. */
 static struct call good_call(void) {
     struct call c;
     lists(&c);
-    empty_register(&c, 2);
+    empty_register(&c.reg, 1, 2);
     new_line(&c, "R1");
-    c.day = 20250322;
+    c.day = TODAY;
     c.micro = 43200000000;
     c.polish = 0;
     memset(c.findings, 0x5A, sizeof c.findings);
@@ -241,28 +255,32 @@ static void must_find(struct call *c, const struct finding *codes, uint16_t coun
 
 /* ---- the groups */
 
-static void a_pair_lives(void) {
-    const char *group = "NEW, NEW again, CXL, CXL again, NEW in the same row";
+static void a_pair_lives(uint8_t version) {
+    const char *group = "NEW, NEW again, CXL, CXL again, NEW in the same row, each on another day";
     static const struct finding live[1] = {{23, 0}};
     static const struct finding cancelled[1] = {{25, 2}};
     struct call c = good_call();
+    empty_register(&c.reg, version, 2);
     struct bytes reg = c.reg;
     expect_row(&reg, "R1");
     must_accept(&c, &reg, group);
+    c.day = TOMORROW;
     must_find(&c, live, 1, group);
     cxl_line(&c, "R1");
-    expect_state(&reg, 0, 2);
+    expect_state(&reg, 0, 2, TOMORROW);
     must_accept(&c, &reg, group);
+    c.day = TODAY;
     must_find(&c, cancelled, 1, group);
     new_line(&c, "R1");
-    expect_state(&reg, 0, 1);
+    expect_state(&reg, 0, 1, TODAY);
     must_accept(&c, &reg, group);
-    printf("%s\n", group);
+    printf("%s, version %u\n", group, version);
 }
 
-static void a_register_fills(void) {
+static void a_register_fills(uint8_t version) {
     const char *group = "a full register: 11, and its own pairs go on";
     struct call c = good_call();
+    empty_register(&c.reg, version, 2);
     struct bytes reg = c.reg;
     expect_row(&reg, "R1");
     must_accept(&c, &reg, group);
@@ -272,16 +290,17 @@ static void a_register_fills(void) {
     new_line(&c, "R3");
     must_refuse(c, 11, group);
     cxl_line(&c, "R2");
-    expect_state(&reg, 1, 2);
+    expect_state(&reg, 1, 2, TODAY);
     must_accept(&c, &reg, group);
     new_line(&c, "R3");
     must_refuse(c, 11, group);
     new_line(&c, "R2");
-    expect_state(&reg, 1, 1);
+    expect_state(&reg, 1, 1, TODAY);
     must_accept(&c, &reg, group);
-    empty_register(&c, 0);
+    empty_register(&c.reg, version, 1);
+    c.reg.len--;
     must_refuse(c, 11, group);
-    printf("%s\n", group);
+    printf("%s, version %u\n", group, version);
 }
 
 static void findings_are_listed(void) {
@@ -351,16 +370,28 @@ static void lists_are_framed(void) {
     printf("%s\n", group);
 }
 
-static void register_is_framed(void) {
+static void register_is_framed(uint8_t version) {
     const char *group = "refusal 6: a byte too few, mark, version, rows used; a byte too many is none";
+    static const uint8_t unknown[] = {0, 3, 4, 255};
     struct call c = good_call();
+    empty_register(&c.reg, version, 2);
     struct bytes reg = c.reg;
     expect_row(&reg, "R1");
-    for (size_t at = 0; at < 5; at++) {
+    for (size_t at = 0; at < 3; at++) {
         struct call d = c;
         d.reg.at[at]++;
         must_refuse(d, 6, group);
         d.reg.at[at] -= 2;
+        must_refuse(d, 6, group);
+    }
+    for (size_t i = 0; i < sizeof unknown; i++) {
+        struct call d = c;
+        d.reg.at[3] = unknown[i];
+        must_refuse(d, 6, group);
+    }
+    for (uint8_t high = 1; high; high = (uint8_t)(high << 1)) {
+        struct call d = c;
+        d.reg.at[4] = high;
         must_refuse(d, 6, group);
     }
     for (size_t len = 0; len < 9; len++) {
@@ -381,6 +412,70 @@ static void register_is_framed(void) {
     c.reg.len++;
     reg.len++;
     must_accept(&c, &reg, group);
+    printf("%s, version %u\n", group, version);
+}
+
+/* Converts: the answer and the whole target must be these, and the source stays. */
+static void must_convert(const struct bytes *from, const struct bytes *to, uint16_t answer, const struct bytes *left, const char *group) {
+    struct bytes source = *from;
+    struct bytes target = *to;
+    uint16_t no = boanhetri_convert(source.at, source.len, target.at, target.len);
+    if (no != answer) {
+        printf("%s: answer %u; wanted %u\n", group, no, answer);
+    }
+    must(no == answer, group, "answer");
+    must(same_bytes(&target, left), group, "target");
+    must(same_bytes(&source, from), group, "source");
+}
+
+static void a_register_is_converted(void) {
+    const char *group = "a conversion: 6, then 12, then the used rows with day 0, over which the next lines are judged";
+    struct call c = good_call();
+    empty_register(&c.reg, 1, 3);
+    struct bytes reg = c.reg;
+    expect_row(&reg, "R1");
+    must_accept(&c, &reg, group);
+    new_line(&c, "R2");
+    expect_row(&reg, "R2");
+    must_accept(&c, &reg, group);
+    cxl_line(&c, "R1");
+    expect_state(&reg, 0, 2, TODAY);
+    must_accept(&c, &reg, group);
+
+    struct bytes to;
+    memset(&to.at, 0x3C, sizeof to.at);
+    to.len = 9 + 2 * 78 - 1;
+    must_convert(&c.reg, &to, 12, &to, group);
+    to.len = 0;
+    must_convert(&c.reg, &to, 12, &to, group);
+    struct bytes bad = c.reg;
+    bad.at[5] = 4;
+    must_convert(&bad, &to, 6, &to, group);
+    empty_register(&bad, 2, 1);
+    must_convert(&bad, &to, 6, &to, group);
+    empty_register(&bad, 1, 1);
+    bad.len = 8;
+    must_convert(&bad, &to, 6, &to, group);
+
+    to.len = 9 + 3 * 78;
+    struct bytes left = to;
+    memcpy(left.at, c.reg.at, 9);
+    left.at[3] = 2;
+    for (size_t row = 0; row < 2; row++) {
+        memcpy(left.at + 9 + 78 * row, c.reg.at + 9 + 74 * row, 74);
+        memset(left.at + 9 + 78 * row + 74, 0, 4);
+    }
+    must_convert(&c.reg, &to, 0, &left, group);
+    to.len = 9 + 2 * 78;
+    left.len = to.len;
+    must_convert(&c.reg, &to, 0, &left, group);
+
+    left.len = 9 + 3 * 78;
+    c.reg = left;
+    c.day = TOMORROW;
+    new_line(&c, "R1");
+    expect_state(&left, 0, 1, TOMORROW);
+    must_accept(&c, &left, group);
     printf("%s\n", group);
 }
 
@@ -518,7 +613,7 @@ static void refusals_have_an_order(void) {
         c.list[i] = good.list[i];
     }
     must_refuse(c, 6, group);
-    empty_register(&c, 0);
+    empty_register(&c.reg, 1, 0);
     must_refuse(c, 7, group);
     c.day = good.day;
     must_refuse(c, 8, group);
@@ -546,11 +641,14 @@ static void nothing_is_kept(void) {
 }
 
 int main(void) {
-    a_pair_lives();
-    a_register_fills();
+    for (uint8_t version = 1; version <= 2; version++) {
+        a_pair_lives(version);
+        a_register_fills(version);
+        register_is_framed(version);
+    }
+    a_register_is_converted();
     findings_are_listed();
     lists_are_framed();
-    register_is_framed();
     moment_is_real();
     buffer_has_room();
     polish_identifiers();

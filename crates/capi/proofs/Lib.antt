@@ -1,3 +1,3 @@
--- What the C function promises: what `judge` does, which leaves nothing open.
+-- What the C functions promise: what `judge` and `convert` do, which leaves nothing open.
 mod SameContract
 mod Unique

@@ -1,14 +1,18 @@
--- The contract of the exported function is the contract of `judge`, over the same arguments in the same order; the number that C hands in for
--- Polish identifiers asks for them where it is not 0.
+-- The contracts of the exported functions are those of `judge` and of `convert`, over the same arguments in the same order; the number that C
+-- hands in for Polish identifiers asks for them where it is not 0.
 use mathlib.Core.Path.{_≡_, refl}
 use mathlib.Core.Bool.{not}
+use Prim.Native.Nat.{ℕ}
 use contract.Lifetimes.{Lfts}
 use denote.Triple.Clauses.{AtExit}
 use borrow.Fn.Kinds.{Dens, endedOf}
 use lib.Dec.{eqb}
+use Rattle.register.proofs.convert.Reads as convert
 use Rattle.verdict.specs.declared.Verdict.{Verdict}
 use Rattle.judge.proofs.Contract.{Arguments, Returned}
 use Rattle.judge.proofs.judge.Reads as judge
+use Rattle.capi.proofs.boanhetri_convert.Kinds as convert-kinds
+use Rattle.capi.proofs.boanhetri_convert.Reads as boanhetri-convert
 use Rattle.capi.proofs.boanhetri_judge.Kinds as kinds
 use Rattle.capi.proofs.boanhetri_judge.Reads as boanhetri
 
@@ -39,3 +43,20 @@ module _ (κs : Lfts 8) where
 
     pub same-learnt : (x : Verdict) (s : HostReturned) → boanhetri.Learnt κs a x s ≡ judge.Learnt κs (passed a) x (left s)
     same-learnt x s = refl
+
+module _ (κs : Lfts 2) where
+  abbrev pub ConvertArguments : Type 0
+  ConvertArguments = Dens κs convert-kinds.ps
+
+  abbrev pub ConvertReturned : Type 0
+  ConvertReturned = AtExit (endedOf 2 convert-kinds.ps convert-kinds.r) κs
+
+  module _ (a : ConvertArguments) where
+    pub convert-asked : boanhetri-convert.Asked κs a ≡ convert.Asked κs a
+    convert-asked = refl
+
+    pub convert-contract : (x : ℕ) (s : ConvertReturned) → boanhetri-convert.Post κs a x s ≡ convert.Post κs a x s
+    convert-contract x s = refl
+
+    pub convert-learnt : (x : ℕ) (s : ConvertReturned) → boanhetri-convert.Learnt κs a x s ≡ convert.Learnt κs a x s
+    convert-learnt x s = refl

@@ -1,7 +1,8 @@
-// One line judged, for a host that links C: what include/boanhetri.h declares.
+// What include/boanhetri.h declares, for a host that links C: one line judged, and a register converted.
 ghost use mathlib.Core.Bool.{not};
 ghost use lib.Dec.{eqb};
 ghost use lib.ListN.{length};
+ghost use Rattle.register.specs.Conversion.{Converted};
 ghost use Rattle.facts.specs.Call.{call};
 ghost use Rattle.judge.specs.Outcome.{outcome, Judged};
 use verdict::Verdict;
@@ -36,4 +37,12 @@ pub extern "C" fn boanhetri_judge(
         polish != 0,
         findings,
     )
+}
+
+// A register of version 1, written into another buffer as version 2.
+#[no_mangle]
+pub extern "C" fn boanhetri_convert(from: &[u8], to: &mut [u8]) -> u16
+    ensures { λ r. ⌜ Converted (now (from .entry)) (now (to .entry)) r (now (to .exit)) ⌝ }
+{
+    register::convert(from, to)
 }

@@ -17,7 +17,7 @@ use Rattle.forms.specs.Findings.{statusOf, formFinding, formFindings}
 use Rattle.forms.specs.Forms.{holds, formOf}
 use Rattle.lists.specs.Frame.{framedAs}
 use Rattle.lists.specs.Rows.{chunks, rowsFrom, some}
-use Rattle.register.specs.Frame.{used, capacity, framed, full}
+use Rattle.register.specs.Frame.{version, dayWidth, used, capacity, framed, full}
 use Rattle.register.specs.Pair.{pairBytes}
 use Rattle.register.specs.Rows.{rowsIn, ownFrom, look, firstRow, standing}
 use Rattle.facts.specs.Rules.{goodCells, pairStands, holdings, flags, polishFlags, allFlags}
@@ -37,5 +37,5 @@ example =
     ascii "h\nCXL|R1||00000000000000000098||00000000000000000098" ++ (replicate 59 124 ++ ascii "\nx\n")
 
 pub papers-example : programWrites example ≡ ascii "2 0 2 24 60\n3 10 0\n"
-unfolding allOf firstFrom digitOf suits shape startsWith same monthLength isDay isMoment valueOf digitsOf writtenDigits decimal cellsOf cell statusOf formFinding formFindings holds formOf framedAs chunks rowsFrom some used capacity framed full pairBytes rowsIn ownFrom look firstRow standing goodCells pairStands holdings flags polishFlags leiGoodUnlapsed leiGood leiWrong ruleCodes formCodes polishCodes codes wordOf pick verdictOf refusedBy outcome allFlags clean noRoom refusal bare unended linesFrom digitsOf-printed spaced printed judged answers programWrites
+unfolding allOf firstFrom digitOf suits shape startsWith same monthLength isDay isMoment valueOf digitsOf writtenDigits decimal cellsOf cell statusOf formFinding formFindings holds formOf framedAs chunks rowsFrom some version dayWidth used capacity framed full pairBytes rowsIn ownFrom look firstRow standing goodCells pairStands holdings flags polishFlags leiGoodUnlapsed leiGood leiWrong ruleCodes formCodes polishCodes codes wordOf pick verdictOf refusedBy outcome allFlags clean noRoom refusal bare unended linesFrom digitsOf-printed spaced printed judged answers programWrites
 papers-example = refl

@@ -1,18 +1,21 @@
 -- One call: the ways in which it can end, and what an accepted line does to the register.
 use mathlib.Core.Path.{_≡_, _∙_, refl, sym, ap}
 use mathlib.Core.Bool.{true, false, cond, not, true≢false}
-use mathlib.Core.List.{List, []}
-use Prim.Native.Nat.{ℕ, _≤_}
+use mathlib.Core.List.{List}
+use Prim.Native.Nat.{ℕ, _≤_, _<_}
 use native.Mathlib.Omega.{arith}
-use borrow.Author.Tests.{eqb-true, eqb-false}
-use lib.Dec.{eqb, lit<}
+use borrow.Author.Tests.{eqb-true, eqb-false, not-false}
+use lib.Dec.{eqb, leb, lit<}
 use Rattle.text.specs.FirstFrom.{firstFrom}
-use Rattle.text.proofs.Bools.{by-test}
+use Rattle.text.proofs.Bools.{by-test, and-left}
+use Rattle.calendar.specs.Day.{isDay}
+use Rattle.calendar.specs.Moments.{isMoment}
+use Rattle.calendar.proofs.Real.{real}
 use Rattle.cells.specs.Cells.{cell}
-use Rattle.register.specs.Frame.{framed, full}
+use Rattle.register.specs.Frame.{version, dayWidth, framed, full}
 use Rattle.register.specs.Rows.{rowsOf, firstRow, standing, standingAt}
 use Rattle.register.specs.Table.{putRow}
-use Rattle.register.specs.Written.{put}
+use Rattle.register.specs.Written.{put, valueOf}
 use Rattle.register.specs.declared.rows.Found.{Found}
 use Rattle.register.specs.declared.rows.Found.the-variants.{Nowhere}
 use Rattle.register.specs.declared.rows.Standing.{Standing}
@@ -20,18 +23,18 @@ use Rattle.register.specs.declared.rows.Standing.the-variants.{Absent, Live, Ca
 use Rattle.register.proofs.Words.{same-refl}
 use Rattle.register.proofs.PairLaws.{Shaped, pair-length}
 use Rattle.register.proofs.RowLaws.{standing-found}
-use Rattle.register.proofs.PutLaws.{put-framed, put-rows, cancelled-put}
+use Rattle.register.proofs.PutLaws.{put-version, put-framed, put-rows, cancelled-version, cancelled-put}
 use Rattle.register.proofs.TableLaws.{look-put}
 use Rattle.facts.specs.Call.{Call}
 use Rattle.facts.specs.Words.{isLive, isAbsent, isCancelled}
 use Rattle.facts.specs.Rules.{isNew, pairStands, standingOf, flags, allFlags}
 use Rattle.judge.specs.Refusal.{clean, early, notWhole, noRoom}
 use Rattle.judge.specs.Outcome.{pairOf, written, refusedOutcome, judgedOutcome, outcome}
-use Rattle.judge.proofs.Firsts.{first-small}
+use Rattle.judge.proofs.Firsts.{first-small, none-holds}
 use Rattle.judge.proofs.Cases.{out-early, out-ten, out-eleven, out-judged}
 use Rattle.conditions.specs.Condition1.{reached}
 use Rattle.conditions.proofs.LineLaws.{no-flag, clean-4, clean-2, clean-shaped, clean-cxl}
-use Rattle.conditions.proofs.TableLaws.{valueOf}
+use Rattle.conditions.proofs.TableLaws.{valueFor, value-length}
 
 -- refused by 1 to 10, refused by 11, or judged
 pub data Way (c : Call) (room : ℕ) : Type 0 where
@@ -59,11 +62,21 @@ module _ (c : Call) (room : ℕ) where
       let few : firstFrom 1 (early c room) ≤ 9 = first-small 0 (early c room) in
       refused (firstFrom 1 (early c room)) some (λ e. omega arith) (rw t) (out-early c room some))
 
+-- a call that reaches its line has a real day, of eight digits at most
+module _ (c : Call) (room : ℕ) (r : reached c room ≡ true) where
+  is-moment : isMoment (c .day) (c .micro) ≡ true
+  is-moment =
+      let none : firstFrom 1 (early c room) ≡ 0 = eqb-true _ _ (and-left (eqb (firstFrom 1 (early c room)) 0) (not (notWhole c)) r) in
+      not-false (isMoment (c .day) (c .micro)) (none-holds 0 (early c room) 6 none)
+
+  pub reached-day : c .day < 4294967296
+  unfolding isMoment
+  reached-day = omega (arith, real (c .day) (and-left (isDay (c .day)) (leb (c .micro) 86399999999) is-moment) .year-to)
+
 -- where a pair is nowhere it stands as absent
-module _ (version n : ℕ) (register pair : List ℕ) where
-  pub nowhere-absent : firstRow version n register pair ≡ Nowhere → standing version n register pair ≡ Absent
-  unfolding standingAt
-  nowhere-absent e = sym (standing-found version n register pair) ∙ ap (standingAt version n register) e
+nowhere-absent : (register pair : List ℕ) → firstRow register pair ≡ Nowhere → standing register pair ≡ Absent
+unfolding standingAt
+nowhere-absent register pair e = sym (standing-found register pair) ∙ ap (standingAt register) e
 
 live-only : (s : Standing) → isAbsent s ≡ false → isCancelled s ≡ false → isLive s ≡ true
 live-only Live a b = refl
@@ -76,7 +89,7 @@ pub record Sound (c : Call) : Type 0 where
   -- its pair was live exactly if it is no NEW
   pub flips : isLive (standingOf c) ≡ not (isNew (c .line))
   -- and where the pair has no row there is one left
-  pub roomy : isAbsent (standingOf c) ≡ true → full 0 (c .register) ≡ false
+  pub roomy : isAbsent (standingOf c) ≡ true → full (c .register) ≡ false
 
 module _ (c : Call) (clear : clean c ≡ true) (room : noRoom c ≡ false) where
   not-live : isNew (c .line) ≡ true → isLive (standingOf c) ≡ false
@@ -110,13 +123,15 @@ module _ (c : Call) (clear : clean c ≡ true) (room : noRoom c ≡ false) where
 
 -- an accepted line puts its pair's row
 module _ (c : Call) (s : Sound c) where
-  absent : firstRow 1 0 (c .register) (pairOf (c .line)) ≡ Nowhere → standingOf c ≡ Absent
+  absent : firstRow (c .register) (pairOf (c .line)) ≡ Nowhere → standingOf c ≡ Absent
   unfolding pairStands
-  absent e = nowhere-absent 1 0 (c .register) (pairOf (c .line)) e
+  absent e = nowhere-absent (c .register) (pairOf (c .line)) e
 
-  pub written-is :
-      written (c .line) (c .register)
-      ≡ put 1 0 (c .register) (firstRow 1 0 (c .register) (pairOf (c .line))) (pairOf (c .line)) (valueOf [] (c .line))
+  -- what the pair's row then keeps
+  abbrev value : List ℕ
+  value = valueFor (dayWidth (c .register)) (c .line) (c .day)
+
+  pub written-is : written c ≡ put (c .register) (firstRow (c .register) (pairOf (c .line))) (pairOf (c .line)) value
   unfolding written
   written-is =
       by-test
@@ -124,22 +139,30 @@ module _ (c : Call) (s : Sound c) where
       (λ t. rw t)
       (λ t.
       rw t
-      (cancelled-put 1 0 [] (c .register) (pairOf (c .line)) (firstRow 1 0 (c .register) (pairOf (c .line)))
+      (cancelled-put (c .register) (pairOf (c .line)) (firstRow (c .register) (pairOf (c .line))) (c .day)
       (λ e. true≢false (sym (sym (ap isLive (absent e)) ∙ s .flips ∙ rw t)))))
 
-  pub no-row-room : firstRow 1 0 (c .register) (pairOf (c .line)) ≡ Nowhere → full 0 (c .register) ≡ false
+  pub no-row-room : firstRow (c .register) (pairOf (c .line)) ≡ Nowhere → full (c .register) ≡ false
   no-row-room e = s .roomy (ap isAbsent (absent e))
 
   -- so that the pair stands as the line says
-  pub stands-after : framed 1 0 (c .register) ≡ true → pairStands (written (c .line) (c .register)) (c .line) ≡ cond (isNew (c .line)) Live Cancelled
+  pub stands-after : framed (c .register) ≡ true → pairStands (written c) (c .line) ≡ cond (isNew (c .line)) Live Cancelled
   unfolding pairStands standing
   stands-after f =
       let pair : List ℕ = pairOf (c .line) in
-      let value : List ℕ = valueOf [] (c .line) in
-      let row : Found = firstRow 1 0 (c .register) pair in
-      let rows : rowsOf 0 (put 1 0 (c .register) row pair value) ≡ putRow (rowsOf 0 (c .register)) pair value =
-      put-rows 1 0 (c .register) pair value f (pair-length (cell (c .line) 4) (cell (c .line) 2)) refl no-row-room
+      let row : Found = firstRow (c .register) pair in
+      let rows : rowsOf (put (c .register) row pair value) ≡ putRow (rowsOf (c .register)) pair value =
+      put-rows (c .register) pair value f (pair-length (cell (c .line) 4) (cell (c .line) 2)) (value-length (dayWidth (c .register)) (c .line) (c .day)) no-row-room
       in
-      ap (λ r. standing 1 0 r pair) written-is
-      ∙ rw (put-framed 1 0 (c .register) row pair value, f, rows, look-put (rowsOf 0 (c .register)) pair value pair, same-refl pair)
+      ap (λ r. standing r pair) written-is
+      ∙ rw (put-framed (c .register) row pair value, f, rows, look-put (rowsOf (c .register)) pair value pair, same-refl pair)
       (by-test (isNew (c .line)) (λ t. rw t) (λ t. rw t))
+
+-- the version is the one that the call finds
+pub written-version : (c : Call) → version (written c) ≡ version (c .register)
+unfolding written
+written-version c =
+    by-test
+    (isNew (c .line))
+    (λ t. rw t (put-version (c .register) (firstRow (c .register) (pairOf (c .line))) (pairOf (c .line)) (valueOf (c .register) Live (c .day))))
+    (λ t. rw t (cancelled-version (c .register) (firstRow (c .register) (pairOf (c .line))) (c .day)))

@@ -40,13 +40,13 @@ module _ (call : Call) {before findings left : List ℕ} {verdict : Verdict} (j 
     room : entriesNeeded (call .polish) ≤ length before
     room = ltb-false (length before) (entriesNeeded (call .polish)) (none-holds 0 (early call (length before)) 7 none)
 
-    is-framed : framed 1 0 (call .register) ≡ true
-    is-framed = not-false (framed 1 0 (call .register)) (none-holds 0 (early call (length before)) 5 none)
+    is-framed : framed (call .register) ≡ true
+    is-framed = not-false (framed (call .register)) (none-holds 0 (early call (length before)) 5 none)
 
     fits : length found ≤ length before
     fits = omega (arith, room, few-found call)
 
-    keeps : left ≡ cond (clean call) (written (call .line) (call .register)) (call .register)
+    keeps : left ≡ cond (clean call) (written call) (call .register)
     keeps = j .keeps ∙ ap (λ (x : Outcome). x .register) o
 
     is-clean : verdict .count ≡ 0 → clean call ≡ true
@@ -57,7 +57,7 @@ module _ (call : Call) {before findings left : List ℕ} {verdict : Verdict} (j 
     unfolding clean
     not-clean h = ne-eqb _ _ (λ e. h (count-found call j o ∙ e))
 
-    is-written : verdict .count ≡ 0 → left ≡ written (call .line) (call .register)
+    is-written : verdict .count ≡ 0 → left ≡ written call
     is-written e = keeps ∙ rw (is-clean e)
 
     words-are : verdict .words ≡ verdictOf (allFlags call) .words

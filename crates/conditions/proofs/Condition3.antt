@@ -22,25 +22,22 @@ use Rattle.judge.specs.Refusal.{clean, noRoom}
 use Rattle.judge.specs.Outcome.{written, Outcome, refusedOutcome, outcome, Judged}
 use Rattle.conditions.specs.Condition1.{reached}
 use Rattle.conditions.specs.Condition2.{accepted, listed}
-use Rattle.conditions.specs.Condition3.{Answered, pairIn, Last, ever, wasNew, wasCxl, lastAccepted, pairsAccepted, Run, start, next, Stands, Follows, Condition3}
+use Rattle.conditions.specs.Condition3.{Answered, Event, Line, pairIn, Last, ever, wasNew, wasCxl, lastAccepted, pairsAccepted, Run, start, next, convert, Stands, Follows, Condition3}
 use Rattle.conditions.proofs.LineLaws.{Known, new-known, cxl-known, good-shaped, clean-shaped, clean-cxl}
 use Rattle.conditions.proofs.FoundLaws.{rule-once, clean-rule, listed-found}
-use Rattle.conditions.proofs.TableLaws.{stateFor, live-is, absent-is, cancelled-is, count-last, shaped-is, ever-shaped}
-use Rattle.conditions.proofs.CallLaws.{Way, refused, stuck, heard, way, Sound, sound, written-is, no-row-room}
-use Rattle.conditions.proofs.Kept.{Kept, kept-start, stands-as, used-is, full-is, kept-same, kept-put}
+use Rattle.conditions.proofs.TableLaws.{stateFor, live-is, absent-is, cancelled-is, shaped-is, ever-shaped}
+use Rattle.conditions.proofs.CallLaws.{Way, refused, stuck, heard, way, reached-day, Sound, sound, written-is, no-row-room}
+use Rattle.conditions.proofs.Kept.{Kept, kept-start, stands-as, one-row, day-is, used-is, full-is, kept-same, kept-put, kept-converted}
 
--- a register of version 1
-abbrev Kept₁ : ℕ → List Answered → List ℕ → Type 0
-Kept₁ c history register = Kept 1 0 [] c history register
-
-module _ {c : ℕ} {history : List Answered} {register : List ℕ} (k : Kept₁ c history register) where
+module _ {c : ℕ} {history : List Event} {register : List ℕ} (k : Kept c history register) where
   stand : Stands history register
   stand =
       record {
-        one-row = λ p e. rw (k .rows) (count-last [] history (k .shapes) p (shaped-is p e));
-        of-shape = ever-shaped history (k .shapes);
-        no-more = used-is 1 0 [] k;
-        live = λ p e. ap isLive (stands-as 1 0 [] k p (shaped-is p e)) ∙ live-is (lastAccepted history p);
+        one-row = λ p e. one-row k p (shaped-is p e);
+        of-shape = ever-shaped history (k .fit);
+        no-more = used-is k;
+        live = λ p e. ap isLive (stands-as k p (shaped-is p e)) ∙ live-is (lastAccepted history p);
+        day = λ p e. day-is k p (shaped-is p e);
       }
 
 refused-not : (verdict : Verdict) (m : ℕ) → (m ≡ 0 → ⊥) → verdict ≡ refusedBy m → accepted verdict ≡ false
@@ -51,16 +48,16 @@ judged-clean : (verdict : Verdict) (call : Call) → verdict ≡ verdictOf (allF
 unfolding verdictOf clean
 judged-clean verdict call e = ap accepted e
 
-module _ {c : ℕ} {history : List Answered} (call : Call) {before findings left : List ℕ} {verdict : Verdict} (k : Kept₁ c history (call .register))
+module _ {c : ℕ} {history : List Event} (call : Call) {before findings left : List ℕ} {verdict : Verdict} (k : Kept c history (call .register))
     (j : Judged (outcome call (length before)) before verdict findings left) where
   abbrev this : Answered
-  this = record { line = call .line; verdict = verdict }
+  this = record { line = call .line; day = call .day; verdict = verdict }
 
   abbrev After : List ℕ → Type 0
-  After register = Kept₁ c (this ∷ history) register
+  After register = Kept c (Line this ∷ history) register
 
   stays : accepted verdict ≡ false → left ≡ call .register → After left
-  stays e r = subst (λ (x : List ℕ). After x) (sym r) (kept-same 1 0 [] k this e)
+  stays e r = subst (λ (x : List ℕ). After x) (sym r) (kept-same k this e)
 
   refusal-kept : (m : ℕ) → (m ≡ 0 → ⊥) → outcome call (length before) ≡ refusedOutcome call m → After left
   refusal-kept m h o =
@@ -71,20 +68,21 @@ module _ {c : ℕ} {history : List Answered} (call : Call) {before findings left
   kept-way (stuck r t o) = refusal-kept 11 (λ e. omega arith) o
   kept-way (heard r t o) =
       let says : verdict ≡ verdictOf (allFlags call) = j .says ∙ ap (λ (x : Outcome). x .verdict) o in
-      let keeps : left ≡ cond (clean call) (written (call .line) (call .register)) (call .register) = j .keeps ∙ ap (λ (x : Outcome). x .register) o in
+      let keeps : left ≡ cond (clean call) (written call) (call .register) = j .keeps ∙ ap (λ (x : Outcome). x .register) o in
       by-test
       (clean call)
       (λ e.
       let s : Sound call = sound call e t in
-      subst (λ (x : List ℕ). After x) (sym (keeps ∙ rw e (written-is call s))) (kept-put 1 0 [] k this (judged-clean verdict call says ∙ e) (s .shape) refl (no-row-room call s)))
+      subst (λ (x : List ℕ). After x) (sym (keeps ∙ rw e (written-is call s))) (kept-put k this (judged-clean verdict call says ∙ e) (record { shape = s .shape; small = reached-day call (length before) r }) (no-row-room call s)))
       (λ e. stays (judged-clean verdict call says ∙ e) (keeps ∙ rw e))
 
   kept-next : After left
   kept-next = kept-way (way call (length before))
 
-pub kept : {c : ℕ} {history : List Answered} {register : List ℕ} → Run c history register → Kept₁ c history register
-kept (start e) = kept-start 1 0 [] (e .framed-one) (e .none-used) (e .room)
+pub kept : {c : ℕ} {history : List Event} {register : List ℕ} → Run c history register → Kept c history register
+kept (start e) = kept-start (e .framed-one) (e .none-used) (e .room)
 kept (next call run j) = kept-next call (kept run) j
+kept (convert {target = target} run done) = kept-converted (kept run) target done
 
 -- an accepted line is clean, and its row had room
 module _ (call : Call) {before findings left : List ℕ} {verdict : Verdict} (j : Judged (outcome call (length before)) before verdict findings left)
@@ -104,7 +102,7 @@ module _ (call : Call) {before findings left : List ℕ} {verdict : Verdict} (j 
 
 room-clean : (call : Call) → noRoom call ≡ true → clean call ≡ true
 unfolding noRoom
-room-clean call t = and-left (clean call) (isNew (call .line) && (isAbsent (standingOf call) && full 0 (call .register))) t
+room-clean call t = and-left (clean call) (isNew (call .line) && (isAbsent (standingOf call) && full (call .register))) t
 
 -- what a call lists of a rule: its code once if the call reaches the rules and the rule gives it
 module _ (call : Call) {before findings left : List ℕ} {verdict : Verdict} (j : Judged (outcome call (length before)) before verdict findings left)
@@ -136,14 +134,14 @@ guarded true x y h = h refl
 guarded false x y h = refl
 
 -- what the next call answers
-module _ {c : ℕ} {history : List Answered} (call : Call) {before findings left : List ℕ} {verdict : Verdict} (k : Kept₁ c history (call .register))
+module _ {c : ℕ} {history : List Event} (call : Call) {before findings left : List ℕ} {verdict : Verdict} (k : Kept c history (call .register))
     (j : Judged (outcome call (length before)) before verdict findings left) where
   abbrev last : Last
   last = lastAccepted history (pairIn (call .line))
 
   stands-last : Shaped (cell (call .line) 4) (cell (call .line) 2) → standingOf call ≡ stateFor last
   unfolding pairStands
-  stands-last s = stands-as 1 0 [] k (pairIn (call .line)) s
+  stands-last s = stands-as k (pairIn (call .line)) s
 
   -- of a rule that is judged for a status and reads cells 4 and 2
   by-pair : (on : Bool) → (on ≡ true → Known (statusOf (cell (call .line) 1))) → (on && good (call .line) 4 && good (call .line) 2) ≡ true → standingOf call ≡ stateFor last
@@ -174,8 +172,8 @@ module _ {c : ℕ} {history : List Answered} (call : Call) {before findings left
   no-room-is : noRoom call ≡ (clean call && (isNew line && (not (ever last) && eqb (pairsAccepted history) c)))
   unfolding noRoom
   no-room-is =
-      guarded (clean call) (isNew line && (isAbsent (standingOf call) && full 0 (call .register))) (isNew line && (not (ever last) && eqb (pairsAccepted history) c))
-      (λ e i. isNew line && ((ap isAbsent (stands-last (clean-shaped call e)) ∙ absent-is last) i && full-is 1 0 [] k i))
+      guarded (clean call) (isNew line && (isAbsent (standingOf call) && full (call .register))) (isNew line && (not (ever last) && eqb (pairsAccepted history) c))
+      (λ e i. isNew line && ((ap isAbsent (stands-last (clean-shaped call e)) ∙ absent-is last) i && full-is k i))
 
   eleven-way : Way call (length before) → eqb (verdict .answer) 11 ≡ (reached call (length before) && noRoom call)
   unfolding refusedBy verdictOf
@@ -195,9 +193,9 @@ module _ {c : ℕ} {history : List Answered} (call : Call) {before findings left
         kind = new-or-cxl call j;
       }
 
-pub condition3 : {c : ℕ} {history : List Answered} {register : List ℕ} → Run c history register → Condition3 c history register
+pub condition3 : {c : ℕ} {history : List Event} {register : List ℕ} → Run c history register → Condition3 c history register
 condition3 {c} {history} {register} run =
     record {
       stands = stand (kept run);
-      follows = λ call e j. follow call (subst (λ (r : List ℕ). Kept₁ c history r) (sym e) (kept run)) j;
+      follows = λ call e j. follow call (subst (λ (r : List ℕ). Kept c history r) (sym e) (kept run)) j;
     }

@@ -51,7 +51,7 @@ pub record NotRefused (call : Call) (before : List ℕ) (verdict : Verdict) (fin
       (x : ℕ) → ((r : Rule) → Among r allRules → x ≡ r .code → ⊥) → ((f : ℕ) → 1 ≤ f → f ≤ 65 → x ≡ 1000 + f → ⊥)
       → times x (listed verdict findings) ≡ 0
   -- with n = 0 the line's pair is set live by NEW and cancelled by CXL; with n > 0 the register stays
-  pub sets-pair : verdict .count ≡ 0 → left ≡ written (call .line) (call .register)
+  pub sets-pair : verdict .count ≡ 0 → left ≡ written call
   pub pair-stands : verdict .count ≡ 0 → pairStands left (call .line) ≡ cond (isNew (call .line)) Live Cancelled
   pub register-stays : (verdict .count ≡ 0 → ⊥) → left ≡ call .register
 

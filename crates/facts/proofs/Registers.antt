@@ -10,7 +10,7 @@ use lib.Seq.{take-at, drop-at}
 use Rattle.text.specs.Ascii.{ascii}
 use Rattle.text.specs.Word.{startsWith}
 use Rattle.cells.specs.Cells.{cell}
-use Rattle.register.specs.Frame.{used, capacity, framed}
+use Rattle.register.specs.Frame.{version, dayWidth, used, capacity, framed}
 use Rattle.register.specs.Pair.{pairBytes}
 use Rattle.register.specs.Rows.{rowsIn, look, stateByte, stateOf, standing}
 use Rattle.register.specs.declared.rows.Standing.{Standing}
@@ -28,11 +28,11 @@ abbrev oneRow : ℕ → List ℕ → List ℕ
 oneRow state line = ascii "TRN" ++ (1 ∷ 0 ∷ 1 ∷ 0 ∷ 0 ∷ 0 ∷ (pairOf line ++ (state ∷ [])))
 
 stands-alone : (state : ℕ) (line : List ℕ) → stateOf state ≡ pairStands (oneRow state line) line
-unfolding used capacity startsWith rowsIn look standing pairStands
+unfolding version dayWidth used capacity startsWith rowsIn look standing pairStands
 stands-alone state line =
     let h : length (pairOf line) ≡ 73 = pair-length (cell line 4) (cell line 2) in
     let size : length (oneRow state line) ≡ 83 = simp length-append (omega (arith, h)) in
-    let f : Framed 1 0 (oneRow state line) = record { head = omega (arith, size); mark = refl; version-is = refl; fits = rw size (lit≤ tt) } in
+    let f : Framed (oneRow state line) = record { head = omega (arith, size); mark = refl; known = refl; fits = rw size (lit≤ tt) } in
     rw (is-framed f, take-at (pairOf line) (state ∷ []) 73 h, drop-at (pairOf line) (state ∷ []) 73 h, same-refl (pairOf line))
 
 abbrev pub registerOf : Standing → List ℕ → List ℕ

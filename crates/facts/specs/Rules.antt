@@ -77,7 +77,7 @@ T c = momentOf (at c 28) .day
 
 -- the pair is cells 4 and 2
 unfoldable pub pairStands : List ℕ → List ℕ → Standing
-pairStands register line = standing 1 0 register (pairBytes (cell line 4) (cell line 2))
+pairStands register line = standing register (pairBytes (cell line 4) (cell line 2))
 
 abbrev pub standingOf : Call → Standing
 standingOf c = pairStands (c .register) (c .line)

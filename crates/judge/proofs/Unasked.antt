@@ -22,12 +22,12 @@ use Rattle.judge.proofs.FlagLaws.{none-polish}
 abbrev outcomeBy : List ℕ → List ℕ → ℕ → Call → ℕ → Outcome
 outcomeBy found bits needed c room =
     let none = eqb (length found) 0 in
-    let number = firstFrom 1 (take 7 (early c room) ++ (ltb room needed ∷ ltb 4096 (length (c .line)) ∷ notWhole c ∷ (none && (isNew (c .line) && (isAbsent (standingOf c) && full 0 (c .register)))) ∷ [])) in
+    let number = firstFrom 1 (take 7 (early c room) ++ (ltb room needed ∷ ltb 4096 (length (c .line)) ∷ notWhole c ∷ (none && (isNew (c .line) && (isAbsent (standingOf c) && full (c .register)))) ∷ [])) in
     cond (eqb number 0)
     (record {
       verdict = record { answer = 0; count = length found; words = bits };
       listed = found;
-      register = cond none (written (c .line) (c .register)) (c .register);
+      register = cond none (written c) (c .register);
     })
     (refusedOutcome c number)
 

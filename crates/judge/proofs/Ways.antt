@@ -75,12 +75,12 @@ module _ (c : Call) (before : List ℕ) where
           })
 
       module _ (clear : v .count ≡ 0) {new absent is-full : Bool}
-          (new-is : new ≡ isNew (c .line)) (absent-is : absent ≡ isAbsent (standingOf c)) (full-is : is-full ≡ full 0 (c .register)) where
+          (new-is : new ≡ isNew (c .line)) (absent-is : absent ≡ isAbsent (standingOf c)) (full-is : is-full ≡ full (c .register)) where
         cleaned : clean c ≡ true
         unfolding clean
         cleaned = eq-eqb _ _ (sym count-is ∙ clear)
 
-        only : clean c ≡ true → noRoom c ≡ (isNew (c .line) && (isAbsent (standingOf c) && full 0 (c .register)))
+        only : clean c ≡ true → noRoom c ≡ (isNew (c .line) && (isAbsent (standingOf c) && full (c .register)))
         unfolding noRoom
         only e = rw e
 
@@ -88,13 +88,13 @@ module _ (c : Call) (before : List ℕ) where
         unfolding noRoom
         room-is =
             (λ i. new-is i && absent-is i && full-is i)
-            ∙ and-assoc (isNew (c .line)) (isAbsent (standingOf c)) (full 0 (c .register))
+            ∙ and-assoc (isNew (c .line)) (isAbsent (standingOf c)) (full (c .register))
             ∙ sym (only cleaned)
 
         pub full-way : {w : Verdict} → (new && absent && is-full) ≡ true → w ≡ refusedBy 11 → Judged (outcome c (length before)) before w before (c .register)
         full-way t s = refused-as 11 (out-eleven c (length before) none whole (sym room-is ∙ t)) s
 
-        pub clean-way : {register : List ℕ} → (new && absent && is-full) ≡ false → register ≡ written (c .line) (c .register)
+        pub clean-way : {register : List ℕ} → (new && absent && is-full) ≡ false → register ≡ written c
             → Judged (outcome c (length before)) before v before register
         clean-way t r =
             rw (out-judged c (length before) none whole (sym room-is ∙ t))

@@ -24,12 +24,13 @@ pub record Outcome : Type 0 where
 abbrev pub pairOf : List ℕ → List ℕ
 pairOf line = pairBytes (cell line 4) (cell line 2)
 
--- the register once the line is accepted: NEW sets its pair live, in place or as the next row, and CXL sets it cancelled
-unfoldable pub written : List ℕ → List ℕ → List ℕ
-written line register =
-    cond (isNew line)
-    (setLive 1 0 [] register (firstRow 1 0 register (pairOf line)) (pairOf line))
-    (setCancelled 1 0 [] register (firstRow 1 0 register (pairOf line)))
+-- the register once the line is accepted, in the version that it has: NEW sets its pair live, in place or as the next row, and CXL sets it cancelled;
+-- both on the submission day
+unfoldable pub written : Call → List ℕ
+written c =
+    cond (isNew (c .line))
+    (setLive (c .register) (firstRow (c .register) (pairOf (c .line))) (pairOf (c .line)) (c .day))
+    (setCancelled (c .register) (firstRow (c .register) (pairOf (c .line))) (c .day))
 
 -- a refusal: its number, count 0 and zero words, and no byte changes
 abbrev pub refusedOutcome : Call → ℕ → Outcome
@@ -41,7 +42,7 @@ judgedOutcome c =
     record {
       verdict = verdictOf (allFlags c);
       listed = codesFound (allFlags c);
-      register = cond (clean c) (written (c .line) (c .register)) (c .register);
+      register = cond (clean c) (written c) (c .register);
     }
 
 unfoldable pub outcome : Call → ℕ → Outcome

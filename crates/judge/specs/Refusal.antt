@@ -31,7 +31,7 @@ early c room =
     ∷ not (framed Ven (c .ven))
     ∷ not (framed Ins (c .ins))
     -- 6: the register
-    ∷ not (register.framed 1 0 (c .register))
+    ∷ not (register.framed (c .register))
     -- 7: the submission moment
     ∷ not (isMoment (c .day) (c .micro))
     -- 8: the findings buffer
@@ -46,7 +46,7 @@ notWhole c = not (eqb (barsOf (c .line)) 64)
 
 -- 11: no finding, NEW, pair not in the register, c rows used
 unfoldable pub noRoom : Call → Bool
-noRoom c = clean c && (isNew (c .line) && (isAbsent (standingOf c) && full 0 (c .register)))
+noRoom c = clean c && (isNew (c .line) && (isAbsent (standingOf c) && full (c .register)))
 
 -- the eleven tests, in order of checking
 abbrev pub tests : Call → ℕ → List Bool

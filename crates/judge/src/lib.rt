@@ -1,11 +1,12 @@
 // One line judged: refused by number, or answered with its findings, and the register written where there are none.
 ghost use mathlib.Core.Path.{_≡_};
 ghost use mathlib.Core.Bool.{cond};
-ghost use mathlib.Core.List.{List, []};
+ghost use mathlib.Core.List.{List};
 ghost use Prim.Native.Nat.{ℕ};
 ghost use lib.ListN.{length};
 ghost use Rattle.text.specs.FirstFrom.{firstFrom};
 ghost use Rattle.cells.specs.Split.{Tabled};
+ghost use Rattle.register.specs.Frame.{rowWidth};
 ghost use Rattle.register.specs.Written.{setLive, setCancelled};
 ghost use Rattle.facts.specs.Call.{call};
 ghost use Rattle.facts.specs.Rules.{pairStands, allFlags};
@@ -31,7 +32,7 @@ fn first_of(tests: [bool; 9]) -> u16
     0
 }
 
-// Refusals 1 to 9. Each test is short, so all are made.
+// Refusals 1 to 9, over a register whose rows have that width. Each test is short, so all are made.
 fn early_refusal(
     line: &[u8],
     lei: &[u8],
@@ -39,13 +40,13 @@ fn early_refusal(
     ccy: &[u8],
     ven: &[u8],
     ins: &[u8],
-    register: &[u8],
+    width: usize,
     day: u32,
     micro: u64,
     polish: bool,
     room: usize,
 ) -> u16
-    ensures { λ r. ⌜ r ≡ firstFrom 1 (early (call (now (line .entry)) (now (lei .entry)) (now (cty .entry)) (now (ccy .entry)) (now (ven .entry)) (now (ins .entry)) (now (register .entry)) day micro polish) room) ⌝ }
+    ensures { λ r. ⌜ ((register : List ℕ) → width ≡ rowWidth register → r ≡ firstFrom 1 (early (call (now (line .entry)) (now (lei .entry)) (now (cty .entry)) (now (ccy .entry)) (now (ven .entry)) (now (ins .entry)) register day micro polish) room)) ⌝ }
 {
     first_of([
         !lists::framed(Mark::Lei, lei),
@@ -53,7 +54,7 @@ fn early_refusal(
         !lists::framed(Mark::Ccy, ccy),
         !lists::framed(Mark::Ven, ven),
         !lists::framed(Mark::Ins, ins),
-        !register::framed(register),
+        width == 0,
         !calendar::is_moment(day, micro),
         room < verdict::entries_needed(polish),
         4096 < line.len(),
@@ -71,13 +72,14 @@ fn pair_of<'a, 't>(line: &'a [u8], starts: &'t [usize; 65], ends: &'t [usize; 65
 }
 
 // The register once a line is accepted.
-fn settle(register: &mut [u8], new: bool, found: Found, pair: &[u8; 73])
-    ensures { λ _. ⌜ now (register .exit) ≡ cond new (setLive 1 0 [] (now (register .entry)) found (now (pair .entry))) (setCancelled 1 0 [] (now (register .entry)) found) ⌝ }
+fn settle(register: &mut [u8], width: usize, new: bool, found: Found, pair: &[u8; 73], day: u32)
+    requires { ⌜ width ≡ rowWidth (now register) ⌝ }
+    ensures { λ _. ⌜ now (register .exit) ≡ cond new (setLive (now (register .entry)) found (now (pair .entry)) day) (setCancelled (now (register .entry)) found day) ⌝ }
 {
     if new {
-        register::set_live(register, found, pair);
+        register::set_live(register, width, found, pair, day);
     } else {
-        register::set_cancelled(register, found);
+        register::set_cancelled(register, width, found, day);
     }
 }
 
@@ -133,6 +135,7 @@ pub fn judge(
 ) -> Verdict
     ensures { λ r. ⌜ Judged (outcome (call (now (line .entry)) (now (lei .entry)) (now (cty .entry)) (now (ccy .entry)) (now (ven .entry)) (now (ins .entry)) (now (register .entry)) day micro polish) (length (now (findings .entry)))) (now (findings .entry)) r (now (findings .exit)) (now (register .exit)) ⌝ }
 {
+    let width = register::row_width(register);
     let no = early_refusal(
         line,
         lei,
@@ -140,7 +143,7 @@ pub fn judge(
         ccy,
         ven,
         ins,
-        register,
+        width,
         day,
         micro,
         polish,
@@ -154,8 +157,8 @@ pub fn judge(
         return verdict::refused(10);
     }
     let pair = pair_of(line, &table.starts, &table.ends);
-    let found = register::find(register, &pair);
-    let standing = register::standing_at(register, found);
+    let found = register::find(register, width, &pair);
+    let standing = register::standing_at(register, width, found);
     let flags = flags_of(
         line,
         &table.starts,
@@ -177,9 +180,9 @@ pub fn judge(
         return verdict;
     }
     let new = text::same(cells::cell(line, &table.starts, &table.ends, 1), b"NEW");
-    if new & facts::is_absent(standing) & register::full(register) {
+    if new & facts::is_absent(standing) & register::full(register, width) {
         return verdict::refused(11);
     }
-    settle(register, new, found, &pair);
+    settle(register, width, new, found, &pair, day);
     verdict
 }

@@ -13,16 +13,16 @@ use lib.Seq.{sets, length-sets, take-at, drop-at}
 use Rattle.text.specs.Word.{same}
 use Rattle.text.specs.Number.{littleEndian}
 use Rattle.text.proofs.Bools.{by-test, and-left, and-right}
-use Rattle.register.specs.Frame.{width, place, used, capacity, framed, full, isUsed}
-use Rattle.register.specs.Rows.{rowIn, rowsIn, rowsOf, stateByte, ownFrom, firstRow}
+use Rattle.register.specs.Frame.{width, place, version, dayWidth, used, capacity, framed, full, isUsed}
+use Rattle.register.specs.Rows.{rowIn, rowsIn, rowsOf, ownFrom, firstRow}
 use Rattle.register.specs.Table.{putRow}
-use Rattle.register.specs.Written.{littleBytes, restated, appended, put, setCancelled}
+use Rattle.register.specs.Written.{littleBytes, restated, appended, put, valueOf, setCancelled}
 use Rattle.register.specs.declared.rows.Found.{Found}
 use Rattle.register.specs.declared.rows.Found.the-variants.{At, Nowhere}
 use Rattle.register.specs.declared.rows.Standing.the-variants.{Cancelled}
 use Rattle.register.proofs.Stores.{take-sets, drop-sets-past, drop-sets-add, sets-front, drop-take}
 use Rattle.register.proofs.Words.{little-head, little-read}
-use Rattle.register.proofs.FrameLaws.{Framed, framed-is, is-framed, framed-kept, capacity-kept, capacity-small, row-within, rows-within}
+use Rattle.register.proofs.FrameLaws.{Framed, framed-is, is-framed, version-kept, day-kept, framed-kept, capacity-kept, capacity-small, row-within, rows-within}
 use Rattle.register.proofs.RowLaws.{FirstAt, first-at, first-within}
 
 -- the row that bytes begin with, after a store behind it, of its value, of the whole of it
@@ -107,11 +107,16 @@ used-written register m h s =
     ap (littleEndian 4) (drop-sets-add 5 register 0 (littleBytes 4 m) ∙ sets-front (drop 5 register) (littleBytes 4 m) room)
     ∙ little-read 4 m (drop 4 (drop 5 register)) (omega arith)
 
-pub not-full : {version n : ℕ} {register : List ℕ} → Framed version n register → full n register ≡ false → used register < capacity n register
+pub not-full : {register : List ℕ} → Framed register → full register ≡ false → used register < capacity register
 unfolding full
-not-full {version} {n} {register} f h = let other : used register ≡ capacity n register → ⊥ = eqb-false (used register) (capacity n register) h in omega arith
+not-full {register} f h =
+    let other : used register ≡ capacity register → ⊥ = eqb-false (used register) (capacity register) (rw (is-framed f) at h) in
+    omega (arith, f .fits)
 
-module _ (version n : ℕ) (register : List ℕ) where
+module _ (register : List ℕ) where
+  abbrev n : ℕ
+  n = dayWidth register
+
   -- the bytes after a row was appended
   abbrev grown : List ℕ → List ℕ → List ℕ
   grown pair value = sets (sets register (place n (used register)) (pair ++ value)) 5 (littleBytes 4 (used register + 1))
@@ -121,69 +126,85 @@ module _ (version n : ℕ) (register : List ℕ) where
       length-sets (sets register (place n (used register)) (pair ++ value)) 5 (littleBytes 4 (used register + 1))
       ∙ length-sets register (place n (used register)) (pair ++ value)
 
-  grown-used : Framed version n register → full n register ≡ false → (pair value : List ℕ) → used (grown pair value) ≡ used register + 1
+  grown-head : (pair value : List ℕ) → take 5 (grown pair value) ≡ take 5 register
+  grown-head pair value =
+      take-sets 5 (sets register (place n (used register)) (pair ++ value)) 5 (littleBytes 4 (used register + 1)) (lit≤ tt)
+      ∙ take-sets 5 register (place n (used register)) (pair ++ value) (omega arith)
+
+  grown-used : Framed register → full register ≡ false → (pair value : List ℕ) → used (grown pair value) ≡ used register + 1
   grown-used f h pair value =
       used-written
       (sets register (place n (used register)) (pair ++ value))
       (used register + 1)
       (rw (length-sets register (place n (used register)) (pair ++ value)) (f .head))
-      (omega (arith, not-full f h, capacity-small n register))
+      (omega (arith, not-full f h, capacity-small register))
 
-  grown-framed : Framed version n register → full n register ≡ false → (pair value : List ℕ) → Framed version n (grown pair value)
+  grown-framed : Framed register → full register ≡ false → (pair value : List ℕ) → Framed (grown pair value)
   grown-framed f h pair value =
-      framed-kept register (grown pair value) f (grown-length pair value)
-      (take-sets 5 (sets register (place n (used register)) (pair ++ value)) 5 (littleBytes 4 (used register + 1)) (lit≤ tt)
-      ∙ take-sets 5 register (place n (used register)) (pair ++ value) (omega arith))
+      framed-kept register (grown pair value) (grown-head pair value) (grown-length pair value) f
       (rw (grown-used f h pair value) (omega (arith, not-full f h)))
 
-  place-framed : Framed version n register → (k : ℕ) (value : List ℕ) → Framed version n (sets register (place n k + 73) value)
+  place-head : (k : ℕ) (value : List ℕ) → take 5 (sets register (place n k + 73) value) ≡ take 5 register
+  place-head k value = take-sets 5 register (place n k + 73) value (omega arith)
+
+  place-framed : Framed register → (k : ℕ) (value : List ℕ) → Framed (sets register (place n k + 73) value)
   place-framed f k value =
-      framed-kept register (sets register (place n k + 73) value) f (length-sets register (place n k + 73) value)
-      (take-sets 5 register (place n k + 73) value (omega arith))
+      framed-kept register (sets register (place n k + 73) value) (place-head k value) (length-sets register (place n k + 73) value) f
       (rw (used-kept register (place n k + 73) value (omega arith)) (f .fits))
 
-  pub put-length : (found : Found) (pair value : List ℕ) → length (put version n register found pair value) ≡ length register
+  pub put-length : (found : Found) (pair value : List ℕ) → length (put register found pair value) ≡ length register
   unfolding put restated appended
   put-length (At k) pair value =
       by-test
-      (isUsed version n register k)
+      (isUsed register k)
       (λ t. rw t (length-sets register (place n k + 73) value))
       (λ t. rw t)
-  put-length Nowhere pair value =
-      by-test (framed version n register && not (full n register)) (λ t. rw t (grown-length pair value)) (λ t. rw t)
+  put-length Nowhere pair value = by-test (framed register && not (full register)) (λ t. rw t (grown-length pair value)) (λ t. rw t)
 
-  -- a row more or a row anew changes neither how many rows fit nor that the register is framed
-  pub put-capacity : (found : Found) (pair value : List ℕ) → capacity n (put version n register found pair value) ≡ capacity n register
-  put-capacity found pair value = capacity-kept n register (put version n register found pair value) (put-length found pair value)
+  put-head : (found : Found) (pair value : List ℕ) → take 5 (put register found pair value) ≡ take 5 register
+  unfolding put restated appended
+  put-head (At k) pair value = by-test (isUsed register k) (λ t. rw t (place-head k value)) (λ t. rw t)
+  put-head Nowhere pair value = by-test (framed register && not (full register)) (λ t. rw t (grown-head pair value)) (λ t. rw t)
 
-  pub put-framed : (found : Found) (pair value : List ℕ) → framed version n (put version n register found pair value) ≡ framed version n register
+  -- a row more or a row anew changes neither the version nor how many rows fit nor that the register is framed
+  pub put-version : (found : Found) (pair value : List ℕ) → version (put register found pair value) ≡ version register
+  put-version found pair value = version-kept register (put register found pair value) (put-head found pair value)
+
+  pub put-day : (found : Found) (pair value : List ℕ) → dayWidth (put register found pair value) ≡ n
+  put-day found pair value = day-kept register (put register found pair value) (put-head found pair value)
+
+  pub put-capacity : (found : Found) (pair value : List ℕ) → capacity (put register found pair value) ≡ capacity register
+  put-capacity found pair value =
+      capacity-kept register (put register found pair value) (put-head found pair value) (put-length found pair value)
+
+  pub put-framed : (found : Found) (pair value : List ℕ) → framed (put register found pair value) ≡ framed register
   unfolding put restated appended isUsed
   put-framed (At k) pair value =
       by-test
-      (isUsed version n register k)
+      (isUsed register k)
       (λ t.
-      let f : framed version n register ≡ true = and-left (framed version n register) (ltb k (used register)) t in
-      rw t (is-framed (place-framed (framed-is version n register f) k value) ∙ sym f))
+      let f : framed register ≡ true = and-left (framed register) (ltb k (used register)) t in
+      rw t (is-framed (place-framed (framed-is register f) k value) ∙ sym f))
       (λ t. rw t)
   put-framed Nowhere pair value =
       by-test
-      (framed version n register && not (full n register))
+      (framed register && not (full register))
       (λ t.
-      let f : framed version n register ≡ true = and-left (framed version n register) (not (full n register)) t in
-      let h : full n register ≡ false = not-true (full n register) (and-right (framed version n register) (not (full n register)) t) in
-      rw t (is-framed (grown-framed (framed-is version n register f) h pair value) ∙ sym f))
+      let f : framed register ≡ true = and-left (framed register) (not (full register)) t in
+      let h : full register ≡ false = not-true (full register) (and-right (framed register) (not (full register)) t) in
+      rw t (is-framed (grown-framed (framed-is register f) h pair value) ∙ sym f))
       (λ t. rw t)
 
-  module _ (pair value : List ℕ) (f : Framed version n register) (k : length pair ≡ 73) (h : length value ≡ 1 + n) where
+  module _ (pair value : List ℕ) (f : Framed register) (k : length pair ≡ 73) (h : length value ≡ 1 + n) where
     put-found :
-        (found : Found) → ownFrom 0 (rowsOf n register) pair ≡ found → (found ≡ Nowhere → full n register ≡ false)
-        → rowsOf n (put version n register found pair value) ≡ putRow (rowsOf n register) pair value
+        (found : Found) → ownFrom 0 (rowsOf register) pair ≡ found → (found ≡ Nowhere → full register ≡ false)
+        → rowsIn n (used (put register found pair value)) (drop 9 (put register found pair value)) ≡ putRow (rowsOf register) pair value
     unfolding put restated appended isUsed
     put-found Nowhere e room =
-        let left : full n register ≡ false = room refl in
+        let left : full register ≡ false = room refl in
         let bytes : List ℕ = sets register (place n (used register)) (pair ++ value) in
         let fits : suc (used register) * width n ≤ length (drop 9 register) =
-        simp length-drop (omega (arith, suc-mul (used register) (width n), row-within n register (used register) (f .head) (not-full f left))) in
+        simp length-drop (omega (arith, suc-mul (used register) (width n), row-within register (used register) (f .head) (not-full f left))) in
         let count : used (grown pair value) ≡ suc (used register) = grown-used f left pair value ∙ add-one (used register) in
         rw (is-framed f, left)
         ((λ j. rowsIn n (count j) (drop 9 (grown pair value)))
@@ -192,9 +213,9 @@ module _ (version n : ℕ) (register : List ℕ) where
         (drop-sets-past 9 bytes 5 (littleBytes 4 (used register + 1)) (lit≤ tt) ∙ drop-sets-add 9 register (used register * width n) (pair ++ value))
         ∙ append-rows n (used register) 0 (drop 9 register) pair value k h fits e)
     put-found (At j) e room =
-        let (i, number, at) = first-at 0 j (rowsOf n register) pair e in
+        let (i, number, at) = first-at 0 j (rowsOf register) pair e in
         let z : i ≡ j = omega arith in
-        let at-j : FirstAt pair (rowsOf n register) j = subst (λ (m : ℕ). FirstAt pair (rowsOf n register) m) z at in
+        let at-j : FirstAt pair (rowsOf register) j = subst (λ (m : ℕ). FirstAt pair (rowsOf register) m) z at in
         let few : j < used register = first-within n j (used register) (drop 9 register) pair at-j in
         let p : place n j + 73 ≡ 9 + (j * width n + 73) = omega arith in
         rw (is-framed f, lt-ltb j (used register) few)
@@ -206,17 +227,23 @@ module _ (version n : ℕ) (register : List ℕ) where
 
   -- putting a pair where it was found: its row keeps the value, every other row stays; where it has none there is room
   pub put-rows :
-      (pair value : List ℕ) → framed version n register ≡ true → length pair ≡ 73 → length value ≡ 1 + n
-      → (firstRow version n register pair ≡ Nowhere → full n register ≡ false)
-      → rowsOf n (put version n register (firstRow version n register pair) pair value) ≡ putRow (rowsOf n register) pair value
+      (pair value : List ℕ) → framed register ≡ true → length pair ≡ 73 → length value ≡ 1 + n
+      → (firstRow register pair ≡ Nowhere → full register ≡ false)
+      → rowsOf (put register (firstRow register pair) pair value) ≡ putRow (rowsOf register) pair value
   unfolding firstRow
   put-rows pair value t k h room =
-      rw t (put-found pair value (framed-is version n register t) k h (ownFrom 0 (rowsOf n register) pair) refl (rw t at room))
+      rw (put-day (firstRow register pair) pair value, t)
+      (put-found pair value (framed-is register t) k h (ownFrom 0 (rowsOf register) pair) refl (rw t at room))
 
 -- cancelling a pair that was found puts its row
 pub cancelled-put :
-    (version n : ℕ) (stamp register pair : List ℕ) (found : Found) → (found ≡ Nowhere → ⊥)
-    → setCancelled version n stamp register found ≡ put version n register found pair (stateByte Cancelled ∷ stamp)
+    (register pair : List ℕ) (found : Found) (day : ℕ) → (found ≡ Nowhere → ⊥)
+    → setCancelled register found day ≡ put register found pair (valueOf register Cancelled day)
 unfolding setCancelled put
-cancelled-put version n stamp register pair Nowhere h = absurd (h refl)
-cancelled-put version n stamp register pair (At k) h = refl
+cancelled-put register pair Nowhere day h = absurd (h refl)
+cancelled-put register pair (At k) day h = refl
+
+pub cancelled-version : (register : List ℕ) (found : Found) (day : ℕ) → version (setCancelled register found day) ≡ version register
+unfolding setCancelled put
+cancelled-version register (At k) day = put-version register (At k) [] (valueOf register Cancelled day)
+cancelled-version register Nowhere day = refl

@@ -1,4 +1,5 @@
 -- A register as rows: where the first row of a pair stands, and what a search for it has seen.
+use mathlib.Core.Logic.{_⊎_, inl, inr}
 use mathlib.Core.Path.{_≡_, _∙_, refl, sym, ap, subst}
 use mathlib.Core.Bool.{Bool, true, false}
 use mathlib.Core.List.{List, [], _∷_}
@@ -17,7 +18,7 @@ use lib.Dec.{ltb}
 use Rattle.text.proofs.Bools.{by-test, and-left, and-right}
 use Rattle.text.proofs.WordLaws.{begins-within}
 use Rattle.text.proofs.LoadLaws.{other-row, next-keeps}
-use Rattle.register.specs.Frame.{width, place, used, framed, isUsed}
+use Rattle.register.specs.Frame.{width, place, dayWidth, used, framed, isUsed, rowWidth}
 use Rattle.register.specs.Rows.{Row, rowsIn, rowsOf, rowNumber, ownFrom, look, stateOf, standsAs, firstRow, standing, standingAt}
 use Rattle.register.specs.declared.rows.Found.{Found}
 use Rattle.register.specs.declared.rows.Found.the-variants.{At, Nowhere}
@@ -25,6 +26,7 @@ use Rattle.register.specs.declared.rows.Standing.the-variants.{Absent, L
 use Rattle.register.proofs.Stores.{drop-take}
 use Rattle.register.proofs.Words.{starts-take}
 use Rattle.register.proofs.FrameLaws.{Framed, framed-is, is-framed, row-within, rows-within}
+use Rattle.register.proofs.WidthLaws.{width-known, told-width, RowAt, row-at}
 
 pub rows-counted : (n k : ℕ) (s : List ℕ) → length (rowsIn n k s) ≡ k
 unfolding rowsIn
@@ -60,18 +62,18 @@ at-first i (suc k) (row ∷ rows) pair h =
     rw (h .0) (at-first (i + 1) k rows pair (h .1) ∙ ap At e)
 
 -- the number found is k exactly if row k is the pair's, and none before it
-module _ (version n : ℕ) (register pair : List ℕ) (t : framed version n register ≡ true) (k : ℕ) where
-  pub number-first : rowNumber (firstRow version n register pair) ≡ some k → FirstAt pair (rowsOf n register) k
+module _ (register pair : List ℕ) (t : framed register ≡ true) (k : ℕ) where
+  pub number-first : rowNumber (firstRow register pair) ≡ some k → FirstAt pair (rowsOf register) k
   unfolding firstRow
-  number-first h = go (ownFrom 0 (rowsOf n register) pair) refl (rw t at h)
+  number-first h = go (ownFrom 0 (rowsOf register) pair) refl (rw t at h)
     where
-      go : (found : Found) → ownFrom 0 (rowsOf n register) pair ≡ found → rowNumber found ≡ some k → FirstAt pair (rowsOf n register) k
-      go (At j) e h = let z : j ≡ k = cc in let (i, same, there) = first-at 0 j (rowsOf n register) pair e in let l : k ≡ i = omega (arith, z, same) in rw l there
+      go : (found : Found) → ownFrom 0 (rowsOf register) pair ≡ found → rowNumber found ≡ some k → FirstAt pair (rowsOf register) k
+      go (At j) e h = let z : j ≡ k = cc in let (i, same, there) = first-at 0 j (rowsOf register) pair e in let l : k ≡ i = omega (arith, z, same) in rw l there
       go Nowhere e h = let z : _≡_ {A = ℕ} 0 1 = cc in absurd (omega arith)
 
-  pub first-number : FirstAt pair (rowsOf n register) k → rowNumber (firstRow version n register pair) ≡ some k
+  pub first-number : FirstAt pair (rowsOf register) k → rowNumber (firstRow register pair) ≡ some k
   unfolding firstRow
-  first-number h = let e : 0 + k ≡ k = omega arith in rw t (ap rowNumber (at-first 0 k (rowsOf n register) pair h) ∙ ap some e)
+  first-number h = let e : 0 + k ≡ k = omega arith in rw t (ap rowNumber (at-first 0 k (rowsOf register) pair h) ∙ ap some e)
 
 -- the first row of a pair is one of the rows, and what is kept of the pair stands there
 pub first-within : (n k m : ℕ) (s pair : List ℕ) → FirstAt pair (rowsIn n m s) k → k < m
@@ -104,13 +106,16 @@ stands-first : (n : ℕ) (s : List ℕ) → 0 < length s → standsAs (take (1 +
 stands-first n [] h = absurd (omega arith)
 stands-first n (x ∷ s) h = let e : 1 + n ≡ suc n = omega arith in rw e
 
-module _ (version n : ℕ) (register pair : List ℕ) (f : Framed version n register) where
+module _ (register pair : List ℕ) (f : Framed register) where
+  abbrev n : ℕ
+  n = dayWidth register
+
   stands-at :
-      (k : ℕ) → FirstAt pair (rowsOf n register) k
-      → stateOf (getD register (place n k + 73) 0) ≡ standsAs (look (rowsOf n register) pair)
+      (k : ℕ) → FirstAt pair (rowsOf register) k
+      → stateOf (getD register (place n k + 73) 0) ≡ standsAs (look (rowsOf register) pair)
   stands-at k at =
       let few : k < used register = first-within n k (used register) (drop 9 register) pair at in
-      let more : place n k + width n ≤ length register = row-within n register k (f .head) (omega arith) in
+      let more : place n k + width n ≤ length register = row-within register k (f .head) (omega arith) in
       let e : 9 + (k * width n + 73) ≡ place n k + 73 = omega arith in
       let some : 0 < length (drop (place n k + 73) register) = simp length-drop (omega arith) in
       sym
@@ -122,55 +127,79 @@ module _ (version n : ℕ) (register pair : List ℕ) (f : Framed version n regi
       ∙ ap stateOf (getD-drop (place n k + 73) register 0 0 ∙ ap (λ j. getD register j 0) (add-zero (place n k + 73))))
 
   stands-found :
-      (found : Found) → ownFrom 0 (rowsOf n register) pair ≡ found
-      → standingAt version n register found ≡ standsAs (look (rowsOf n register) pair)
+      (found : Found) → ownFrom 0 (rowsOf register) pair ≡ found
+      → standingAt register found ≡ standsAs (look (rowsOf register) pair)
   unfolding standingAt isUsed
-  stands-found Nowhere e = sym (ap standsAs (look-none 0 (rowsOf n register) pair e))
+  stands-found Nowhere e = sym (ap standsAs (look-none 0 (rowsOf register) pair e))
   stands-found (At j) e =
-      let (k, number, at) = first-at 0 j (rowsOf n register) pair e in
+      let (k, number, at) = first-at 0 j (rowsOf register) pair e in
       let z : k ≡ j = omega arith in
-      let at-j : FirstAt pair (rowsOf n register) j = subst (λ (m : ℕ). FirstAt pair (rowsOf n register) m) z at in
+      let at-j : FirstAt pair (rowsOf register) j = subst (λ (m : ℕ). FirstAt pair (rowsOf register) m) z at in
       let few : j < used register = first-within n j (used register) (drop 9 register) pair at-j in
       rw (is-framed f, lt-ltb j (used register) few) (stands-at j at-j)
 
 -- how a pair stands is what is read where it was found
 pub standing-found :
-    (version n : ℕ) (register pair : List ℕ)
-    → standingAt version n register (firstRow version n register pair) ≡ standing version n register pair
+    (register pair : List ℕ)
+    → standingAt register (firstRow register pair) ≡ standing register pair
 unfolding firstRow standing standingAt
-standing-found version n register pair =
+standing-found register pair =
     by-test
-    (framed version n register)
-    (λ t. rw t (stands-found version n register pair (framed-is version n register t) (ownFrom 0 (rowsOf n register) pair) refl))
+    (framed register)
+    (λ t. rw t (stands-found register pair (framed-is register t) (ownFrom 0 (rowsOf register) pair) refl))
     (λ t. rw t)
 
 -- the used rows, with the head before them
-abbrev pub inUse : ℕ → List ℕ → List ℕ
-inUse n register = take (place n (used register)) register
+abbrev pub inUse : List ℕ → List ℕ
+inUse register = take (place (dayWidth register) (used register)) register
 
--- the rows before place `at` are other pairs'
-pub record SearchSoFar (version n : ℕ) (register pair rows : List ℕ) (at : ℕ) : Type 0 where
-  pub framed-one : framed version n register ≡ true
+-- the rows before place `at` are other pairs'; w is the width of a row
+pub record SearchSoFar (w : ℕ) (register pair rows : List ℕ) (at : ℕ) : Type 0 where
+  pub framed-one : framed register ≡ true
+  pub walks : w ≡ width (dayWidth register)
   pub long : length pair ≡ 73
-  pub rows-are : rows ≡ inUse n register
+  pub rows-are : rows ≡ inUse register
   pub row : ℕ
   pub within : row ≤ used register
-  pub place-is : at ≡ place n row
-  pub left : ownFrom 0 (rowsOf n register) pair ≡ ownFrom row (rowsIn n (used register - row) (drop at register)) pair
+  pub place-is : at ≡ place (dayWidth register) row
+  pub left : ownFrom 0 (rowsOf register) pair ≡ ownFrom row (rowsIn (dayWidth register) (used register - row) (drop at register)) pair
 
 pub search-start :
-    {version n : ℕ} {register pair rows : List ℕ} → framed version n register ≡ true → length pair ≡ 73 → rows ≡ inUse n register
-    → SearchSoFar version n register pair rows 9
-search-start {version} {n} {register} f l e =
+    {w : ℕ} {register pair rows : List ℕ} → w ≡ rowWidth register → framed register ≡ true → length pair ≡ 73 → rows ≡ take (9 + used register * w) register
+    → SearchSoFar w register pair rows 9
+search-start {w} {register} told f l e =
     let z : used register - 0 ≡ used register = omega arith in
-    record { framed-one = f; long = l; rows-are = e; row = 0; within = omega arith; place-is = omega (arith, zero-mul (width n)); left = rw z }
+    record {
+      framed-one = f;
+      walks = told-width register told f;
+      long = l;
+      rows-are = e ∙ ap (λ k. take (9 + used register * k) register) (told-width register told f);
+      row = 0;
+      within = omega arith;
+      place-is = omega (arith, zero-mul (width (dayWidth register)));
+      left = rw z;
+    }
 
-module _ {version n : ℕ} {register pair rows : List ℕ} {at : ℕ} (so-far : SearchSoFar version n register pair rows at) where
-  rows-end : length rows ≡ place n (used register)
+module _ {w : ℕ} {register pair rows : List ℕ} {at : ℕ} (so-far : SearchSoFar w register pair rows at) where
+  abbrev size : ℕ
+  size = width (dayWidth register)
+
+  pub search-known : (w ≡ 74) ⊎ (w ≡ 78)
+  search-known = rw (so-far .walks) (width-known register)
+
+  -- a word within the pair's bytes stands within a row
+  pub search-rowed : {place : ℕ} → place + 8 ≤ 73 → Rowed w place 8
+  search-rowed {place} h = go search-known
+    where
+      go : (w ≡ 74) ⊎ (w ≡ 78) → Rowed w place 8
+      go (inl e) = record { sized = inl refl; nonzero = omega arith; short = omega arith; room = omega arith }
+      go (inr e) = record { sized = inl refl; nonzero = omega arith; short = omega arith; room = omega arith }
+
+  rows-end : length rows ≡ place (dayWidth register) (used register)
   rows-end =
-      let whole = framed-is version n register (so-far .framed-one) in
-      let room : place n (used register) ≤ length register = omega (arith, whole .head, rw length-drop at (rows-within whole)) in
-      rw (so-far .rows-are) (length-take-le (place n (used register)) register room)
+      let whole = framed-is register (so-far .framed-one) in
+      let room : place (dayWidth register) (used register) ≤ length register = omega (arith, whole .head, rw length-drop at (rows-within whole)) in
+      rw (so-far .rows-are) (length-take-le (place (dayWidth register) (used register)) register room)
 
   pub search-behind : 9 ≤ at
   search-behind = omega (arith, so-far .place-is)
@@ -179,86 +208,88 @@ module _ {version n : ℕ} {register pair rows : List ℕ} {at : ℕ} (so-far : 
     -- a place within the used rows is that of one of them
     one-used : so-far .row < used register
     one-used =
-        let before : so-far .row * width n < used register * width n = omega (arith, so-far .place-is, rows-end) in
-        lt-of-mul-lt-mul-right (width n) before
+        let before : so-far .row * size < used register * size = omega (arith, so-far .place-is, rows-end) in
+        lt-of-mul-lt-mul-right size before
 
-    pub search-small : at + width n ≤ length rows
-    search-small = omega (arith, so-far .place-is, rows-end, suc-mul (so-far .row) (width n), mul-le-mul-right (width n) one-used)
+    pub search-small : at + w ≤ length rows
+    search-small = omega (arith, so-far .walks, so-far .place-is, rows-end, suc-mul (so-far .row) size, mul-le-mul-right size one-used)
 
     compared : (b : Bool) → startsWith pair (drop at rows) ≡ b → same pair (take 73 (drop at register)) ≡ b
     compared b e =
-        let room : at + (length rows - at) ≡ place n (used register) = omega (arith, rows-end) in
+        let room : at + (length rows - at) ≡ place (dayWidth register) (used register) = omega (arith, rows-end) in
         let cut : drop at rows ≡ take (length rows - at) (drop at register) =
         ap (drop at) (so-far .rows-are ∙ ap (λ k. take k register) (sym room)) ∙ drop-take at (length rows - at) register in
         sym (starts-take pair (drop at register) ∙ ap (λ k. same pair (take k (drop at register))) (so-far .long))
-        ∙ sym (ap (startsWith pair) cut ∙ begins-within (length rows - at) pair (drop at register) (omega (arith, search-small, so-far .long)))
+        ∙ sym (ap (startsWith pair) cut ∙ begins-within (length rows - at) pair (drop at register) (omega (arith, so-far .walks, search-small, so-far .long)))
         ∙ e
 
     one-row : used register - so-far .row ≡ suc (used register - (so-far .row + 1))
     one-row = omega (arith, one-used)
 
-    pub search-hit : startsWith pair (drop at rows) ≡ true → At ((at - 9) / width n) ≡ firstRow version n register pair
+    pub search-hit : startsWith pair (drop at rows) ≡ true → At ((at - 9) / w) ≡ firstRow register pair
     unfolding firstRow ownFrom rowsIn
     search-hit e =
-        let back : at - 9 ≡ so-far .row * width n = omega (arith, so-far .place-is) in
-        let number : (at - 9) / width n ≡ so-far .row = rw back (mul-div-cancel (so-far .row) (omega arith)) in
+        let back : at - 9 ≡ so-far .row * size = omega (arith, so-far .place-is) in
+        let number : (at - 9) / w ≡ so-far .row = rw (so-far .walks, back) (mul-div-cancel (so-far .row) (omega arith)) in
         rw (so-far .framed-one) (ap At number ∙ sym (so-far .left ∙ rw (one-row, compared true e)))
 
-    pub search-on : startsWith pair (drop at rows) ≡ false → SearchSoFar version n register pair rows (at + width n)
+    pub search-on : startsWith pair (drop at rows) ≡ false → SearchSoFar w register pair rows (at + w)
     unfolding ownFrom rowsIn
     search-on e =
-        let p : (so-far .row + 1) * width n ≡ so-far .row * width n + width n = ap (λ j. j * width n) (add-one (so-far .row)) ∙ suc-mul (so-far .row) (width n) in
+        let p : (so-far .row + 1) * size ≡ so-far .row * size + size = ap (λ j. j * size) (add-one (so-far .row)) ∙ suc-mul (so-far .row) size in
         record {
           framed-one = so-far .framed-one;
+          walks = so-far .walks;
           long = so-far .long;
           rows-are = so-far .rows-are;
           row = so-far .row + 1;
           within = omega (arith, one-used);
-          place-is = omega (arith, so-far .place-is);
-          left = so-far .left ∙ rw (one-row, compared false e, drop-drop (width n) at register);
+          place-is = omega (arith, so-far .walks, so-far .place-is);
+          left = so-far .left ∙ rw (one-row, compared false e, drop-drop size at register, so-far .walks);
         }
 
-  pub search-end : length rows ≤ at → Nowhere ≡ firstRow version n register pair
+  pub search-end : length rows ≤ at → Nowhere ≡ firstRow register pair
   unfolding firstRow ownFrom rowsIn
   search-end h =
-      let behind : used register * width n ≤ so-far .row * width n = omega (arith, so-far .place-is, rows-end) in
+      let behind : used register * size ≤ so-far .row * size = omega (arith, so-far .place-is, rows-end) in
       let all : used register ≤ so-far .row = le-of-mul-le-mul-right behind (omega arith) in
       let k : used register - so-far .row ≡ 0 = omega arith in
       rw (so-far .framed-one) (sym (so-far .left ∙ rw k))
 
 -- rows with another word than the pair's are passed
 pub search-next :
-    {version n : ℕ} {register pair rows : List ℕ} {from : ℕ} → SearchSoFar version n register pair rows from → {place : ℕ} → Rowed (width n) place 8 → place + 8 ≤ 73
-    → {asked at : ℕ} → asked ≡ littleEndian 8 (drop place pair) → at ≡ nextRow (width n) place 8 asked rows from → SearchSoFar version n register pair rows at
-search-next {version} {n} {register} {pair} {rows} {from} so-far {place} rowed short {asked} asks next =
-    rw next (next-keeps rowed asked rows (λ at. SearchSoFar version n register pair rows at) past from so-far)
+    {w : ℕ} {register pair rows : List ℕ} {from : ℕ} → SearchSoFar w register pair rows from → {place : ℕ} → Rowed w place 8 → place + 8 ≤ 73
+    → {asked at : ℕ} → asked ≡ littleEndian 8 (drop place pair) → at ≡ nextRow w place 8 asked rows from → SearchSoFar w register pair rows at
+search-next {w} {register} {pair} {rows} {from} so-far {place} rowed short {asked} asks next =
+    rw next (next-keeps rowed asked rows (λ at. SearchSoFar w register pair rows at) past from so-far)
   where
-    past : (at : ℕ) → at + width n ≤ length rows → hasWord place 8 asked rows at ≡ false → SearchSoFar version n register pair rows at
-        → SearchSoFar version n register pair rows (at + width n)
-    past at fits e here = search-on here (omega arith) (other-row place 8 pair rows at (omega (arith, so-far .long)) asks e)
+    past : (at : ℕ) → at + w ≤ length rows → hasWord place 8 asked rows at ≡ false → SearchSoFar w register pair rows at
+        → SearchSoFar w register pair rows (at + w)
+    past at fits e here =
+        search-on here (omega (arith, so-far .walks)) (other-row place 8 pair rows at (omega (arith, so-far .long)) asks e)
 
 -- a register that is not framed holds no pair, and neither does a row that is not used
-pub first-unframed : (version n : ℕ) (register pair : List ℕ) → framed version n register ≡ false → Nowhere ≡ firstRow version n register pair
+pub first-unframed : (register pair : List ℕ) → framed register ≡ false → Nowhere ≡ firstRow register pair
 unfolding firstRow
-first-unframed version n register pair e = rw e
+first-unframed register pair e = rw e
 
-pub used-row-within : (version n : ℕ) (register : List ℕ) (k : ℕ) → isUsed version n register k ≡ true → place n k + width n ≤ length register
+pub used-row : (w : ℕ) (register : List ℕ) (k : ℕ) → w ≡ rowWidth register → isUsed register k ≡ true → RowAt w register k
 unfolding isUsed
-used-row-within version n register k e =
-    let f : Framed version n register = framed-is version n register (and-left (framed version n register) (ltb k (used register)) e) in
-    let few : k < used register = ltb-true k (used register) (and-right (framed version n register) (ltb k (used register)) e) in
-    row-within n register k (f .head) (omega arith)
+used-row w register k told e =
+    let t : framed register ≡ true = and-left (framed register) (ltb k (used register)) e in
+    let few : k < used register = ltb-true k (used register) (and-right (framed register) (ltb k (used register)) e) in
+    row-at w register k told t (omega (arith, framed-is register t .fits))
 
-module _ (version n : ℕ) (register : List ℕ) (k : ℕ) where
-  pub stands-unused : isUsed version n register k ≡ false → Absent ≡ standingAt version n register (At k)
+module _ (register : List ℕ) (k : ℕ) where
+  pub stands-unused : isUsed register k ≡ false → Absent ≡ standingAt register (At k)
   unfolding standingAt
   stands-unused e = rw e
 
-  module _ (e : isUsed version n register k ≡ true) {state : ℕ} (read : state ≡ getD register (place n k + 73) 0) where
-    pub stands-live : state ≡ 1 → Live ≡ standingAt version n register (At k)
+  module _ (e : isUsed register k ≡ true) {state : ℕ} (read : state ≡ getD register (place (dayWidth register) k + 73) 0) where
+    pub stands-live : state ≡ 1 → Live ≡ standingAt register (At k)
     unfolding standingAt
     stands-live h = rw (e, ← read, h)
 
-    pub stands-cancelled : (state ≡ 1 → ⊥) → Cancelled ≡ standingAt version n register (At k)
+    pub stands-cancelled : (state ≡ 1 → ⊥) → Cancelled ≡ standingAt register (At k)
     unfolding standingAt
     stands-cancelled h = rw (e, ← read, ne-eqb state 1 h)

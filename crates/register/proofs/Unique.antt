@@ -1,11 +1,16 @@
 -- Each public function's contract determines its answer, and every byte of the register that it leaves.
+use mathlib.Core.Path.{_≡_}
+use Prim.Native.Nat.{ℕ}
+use contract.Lifetimes.{Lfts}
+use denote.Triple.Clauses.{AtExit}
+use borrow.Fn.Kinds.{Dens, endedOf}
 use Rattle.text.proofs.Determined.{Determined, Left, same-both}
+use Rattle.register.proofs.conversion.convert.Kinds as convert-kinds
+use Rattle.register.proofs.conversion.convert.Reads as convert-reads
+use Rattle.register.proofs.frame.row_width.Kinds as row-width-kinds
+use Rattle.register.proofs.frame.row_width.Reads as row-width-reads
 use Rattle.register.proofs.frame.used.Kinds as used-kinds
 use Rattle.register.proofs.frame.used.Reads as used-reads
-use Rattle.register.proofs.frame.capacity.Kinds as capacity-kinds
-use Rattle.register.proofs.frame.capacity.Reads as capacity-reads
-use Rattle.register.proofs.frame.framed.Kinds as framed-kinds
-use Rattle.register.proofs.frame.framed.Reads as framed-reads
 use Rattle.register.proofs.frame.full.Kinds as full-kinds
 use Rattle.register.proofs.frame.full.Reads as full-reads
 use Rattle.register.proofs.pairs.pair_bytes.Kinds as pair-bytes-kinds
@@ -24,11 +29,8 @@ use Rattle.register.proofs.writes.set_cancelled.Reads as set-cancelled-
 pub used-determined : Determined used-kinds.ps used-kinds.r used-reads.Post
 used-determined κs a x y s t = same-both
 
-pub capacity-determined : Determined capacity-kinds.ps capacity-kinds.r capacity-reads.Post
-capacity-determined κs a x y s t = same-both
-
-pub framed-determined : Determined framed-kinds.ps framed-kinds.r framed-reads.Post
-framed-determined κs a x y s t = same-both
+pub row-width-determined : Determined row-width-kinds.ps row-width-kinds.r row-width-reads.Post
+row-width-determined κs a x y s t = same-both
 
 pub full-determined : Determined full-kinds.ps full-kinds.r full-reads.Post
 full-determined κs a x y s t = same-both
@@ -50,3 +52,9 @@ set-live-determined κs a x y s t = same-both
 
 pub set-cancelled-determined : Left set-cancelled-kinds.ps set-cancelled-kinds.r (λ κs s. s .0 .now) set-cancelled-reads.Post
 set-cancelled-determined κs a x y s t = same-both
+
+-- the answer, and the target
+pub convert-determined :
+    (κs : Lfts 2) (a : Dens κs convert-kinds.ps) (x y : ℕ) (s t : AtExit (endedOf 2 convert-kinds.ps convert-kinds.r) κs)
+    → convert-reads.Post κs a x s → convert-reads.Post κs a y t → (x ≡ y) × (s .1 .0 .now ≡ t .1 .0 .now)
+convert-determined κs a x y s t p q = (same-both (p .says) (q .says), same-both (p .leaves) (q .leaves))

@@ -61,3 +61,7 @@ little-head i k s t h =
 pub little-read : (k m : ℕ) (s : List ℕ) → m < 256 ^ k → littleEndian k (littleBytes k m ++ s) ≡ m
 little-read zero m s h = omega arith
 little-read (suc k) m s h = ap (λ v. m % 256 + 256 * v) (little-read k (m / 256) s ((div-lt-iff-lt-mul (lit< tt)) .1 (rw (pow-suc 256 k) at h))) ∙ mod-add-div m 256
+
+pub little-length : (k m : ℕ) → length (littleBytes k m) ≡ k
+little-length zero m = refl
+little-length (suc k) m = ap suc (little-length k (m / 256))

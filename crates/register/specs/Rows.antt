@@ -6,13 +6,14 @@ use mathlib.Core.Option.{Option, none, some}
 use lib.Dec.{eqb}
 use lib.ListN.{take, drop, getD}
 use Rattle.text.specs.Word.{same}
-use Rattle.register.specs.Frame.{width, place, used, framed, isUsed}
+use Rattle.text.specs.Number.{littleEndian}
+use Rattle.register.specs.Frame.{width, place, dayWidth, used, framed, isUsed}
 use Rattle.register.specs.declared.rows.Found.{Found}
 use Rattle.register.specs.declared.rows.Found.the-variants.{At, Nowhere}
 use Rattle.register.specs.declared.rows.Standing.{Standing}
 use Rattle.register.specs.declared.rows.Standing.the-variants.{Absent, Live, Cancelled}
 
--- the 73 bytes of a pair, and what is kept of it: the state, then n bytes
+-- the 73 bytes of a pair, and what is kept of it: the state, then n bytes for the day
 pub record Row : Type 0 where
   pub key : List ℕ
   pub value : List ℕ
@@ -27,8 +28,8 @@ rowsIn n zero s = []
 rowsIn n (suc k) s = rowIn n s ∷ rowsIn n k (drop (width n) s)
 
 -- the used rows
-abbrev pub rowsOf : ℕ → List ℕ → List Row
-rowsOf n register = rowsIn n (used register) (drop 9 register)
+abbrev pub rowsOf : List ℕ → List Row
+rowsOf register = rowsIn (dayWidth register) (used register) (drop 9 register)
 
 -- the number of the row that was found, counted from 0; none where there is no such row
 abbrev pub rowNumber : Found → Option ℕ
@@ -60,17 +61,21 @@ standsAs [] = Absent
 standsAs (state ∷ more) = stateOf state
 
 -- a register that is not framed holds no pair
-unfoldable pub firstRow : (version n : ℕ) → List ℕ → List ℕ → Found
-firstRow version n register pair = cond (framed version n register) (ownFrom 0 (rowsOf n register) pair) Nowhere
+unfoldable pub firstRow : List ℕ → List ℕ → Found
+firstRow register pair = cond (framed register) (ownFrom 0 (rowsOf register) pair) Nowhere
 
-unfoldable pub standing : (version n : ℕ) → List ℕ → List ℕ → Standing
-standing version n register pair = cond (framed version n register) (standsAs (look (rowsOf n register) pair)) Absent
+unfoldable pub standing : List ℕ → List ℕ → Standing
+standing register pair = cond (framed register) (standsAs (look (rowsOf register) pair)) Absent
+
+-- the day that is kept of a pair, behind its state: 0 in version 1, which keeps none
+unfoldable pub dayOf : List ℕ → List ℕ → ℕ
+dayOf register pair = littleEndian (dayWidth register) (drop 1 (look (rowsOf register) pair))
 
 -- by the state of the used row of that number
-abbrev pub standingIn : (version n : ℕ) → List ℕ → Option ℕ → Standing
-standingIn version n register none = Absent
-standingIn version n register (some k) = cond (isUsed version n register k) (stateOf (getD register (place n k + 73) 0)) Absent
+abbrev pub standingIn : List ℕ → Option ℕ → Standing
+standingIn register none = Absent
+standingIn register (some k) = cond (isUsed register k) (stateOf (getD register (place (dayWidth register) k + 73) 0)) Absent
 
 -- by the row where it was found
-unfoldable pub standingAt : (version n : ℕ) → List ℕ → Found → Standing
-standingAt version n register found = standingIn version n register (rowNumber found)
+unfoldable pub standingAt : List ℕ → Found → Standing
+standingAt register found = standingIn register (rowNumber found)

@@ -1,9 +1,13 @@
 // Where a pair stands in a register, and how.
 ghost use mathlib.Core.Path.{_≡_};
+ghost use mathlib.Core.Logic.{_⊎_};
 ghost use Prim.Native.Nat.{_+_, _≤_};
+ghost use lib.ListN.{length};
+ghost use Rattle.text.specs.Stride.{Rowed, nextRow};
+ghost use Rattle.register.specs.Frame.{rowWidth};
 ghost use Rattle.register.specs.Rows.{firstRow, standing, standingAt};
-use crate::frame::framed;
 use crate::frame::is_used;
+use crate::frame::row_width;
 use crate::frame::used;
 use text::begins_with;
 use text::byte_at;
@@ -39,51 +43,67 @@ fn word_place(pair: &[u8; 73]) -> usize
     13 + length
 }
 
-// The first used row whose first 73 bytes are the pair's.
-pub fn find(register: &[u8], pair: &[u8; 73]) -> Found
-    ensures { λ r. ⌜ r ≡ firstRow 1 0 (now (register .entry)) (now (pair .entry)) ⌝ }
+// The next row that has the word. The widths are named, since the compiler makes less of each row that is passed where it knows
+// the width.
+fn next_with(rows: &[u8], from: usize, width: usize, place: usize, asked: u64) -> usize
+    requires { ⌜ ((width ≡ 74) ⊎ (width ≡ 78)) × (Rowed width place 8 × (from ≤ length (now rows))) ⌝ }
+    ensures { λ r. ⌜ r ≡ nextRow width place 8 asked (now (rows .entry)) from ⌝ }
 {
-    if !framed(register) {
+    if width == 78 {
+        return next_row(rows, from, 78, place, 8, asked);
+    }
+    next_row(rows, from, 74, place, 8, asked)
+}
+
+// The first used row whose first 73 bytes are the pair's.
+pub fn find(register: &[u8], width: usize, pair: &[u8; 73]) -> Found
+    requires { ⌜ width ≡ rowWidth (now register) ⌝ }
+    ensures { λ r. ⌜ r ≡ firstRow (now (register .entry)) (now (pair .entry)) ⌝ }
+{
+    if width == 0 {
         return Found::Nowhere;
     }
-    let rows = head(register, 9 + used(register) as usize * 74);
+    let rows = head(register, 9 + used(register) as usize * width);
     let whole = &pair[..];
     let place = word_place(pair);
     let asked = word(whole, place, 8);
     let mut at = 9;
     while at < rows.len() {
         if begins_with(rest(rows, at), whole) {
-            return Found::At((at - 9) / 74);
+            return Found::At((at - 9) / width);
         }
-        at = next_row(rows, at + 74, 74, place, 8, asked);
+        at = next_with(rows, at + width, width, place, asked);
     }
     Found::Nowhere
 }
 
-fn standing_in(register: &[u8], row: usize) -> Standing
-    ensures { λ r. ⌜ r ≡ standingAt 1 0 (now (register .entry)) (Found.At row) ⌝ }
+fn standing_in(register: &[u8], width: usize, row: usize) -> Standing
+    requires { ⌜ width ≡ rowWidth (now register) ⌝ }
+    ensures { λ r. ⌜ r ≡ standingAt (now (register .entry)) (Found.At row) ⌝ }
 {
-    if !is_used(register, row) {
+    if !is_used(register, width, row) {
         return Standing::Absent;
     }
-    if byte_at(register, 9 + row * 74 + 73) == 1 {
+    if byte_at(register, 9 + row * width + 73) == 1 {
         return Standing::Live;
     }
     Standing::Cancelled
 }
 
 // How a pair stands whose place is known already: no row but that one is read.
-pub fn standing_at(register: &[u8], found: Found) -> Standing
-    ensures { λ r. ⌜ r ≡ standingAt 1 0 (now (register .entry)) found ⌝ }
+pub fn standing_at(register: &[u8], width: usize, found: Found) -> Standing
+    requires { ⌜ width ≡ rowWidth (now register) ⌝ }
+    ensures { λ r. ⌜ r ≡ standingAt (now (register .entry)) found ⌝ }
 {
     match found {
-        Found::At(row) => standing_in(register, row),
+        Found::At(row) => standing_in(register, width, row),
         Found::Nowhere => Standing::Absent,
     }
 }
 
 pub fn standing_of(register: &[u8], pair: &[u8; 73]) -> Standing
-    ensures { λ r. ⌜ r ≡ standing 1 0 (now (register .entry)) (now (pair .entry)) ⌝ }
+    ensures { λ r. ⌜ r ≡ standing (now (register .entry)) (now (pair .entry)) ⌝ }
 {
-    standing_at(register, find(register, pair))
+    let width = row_width(register);
+    standing_at(register, width, find(register, width, pair))
 }

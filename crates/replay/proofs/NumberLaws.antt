@@ -8,13 +8,10 @@ use lib.Seq.{drop-drop}
 use Rattle.text.specs.Number.{littleEndian}
 use Rattle.text.proofs.Lists.{rest-at}
 use Rattle.register.specs.Written.{littleBytes}
+use Rattle.register.proofs.Words.{little-length}
 use Rattle.buffer.specs.Kept.{Kept}
 use Rattle.buffer.proofs.KeptLaws.{Joins, KeptSoFar, bytes-join, so-far-start, so-far-on, so-far-end}
 use Rattle.replay.specs.Numbers.{eachIn, entriesIn}
-
-bytes-length : (width v : ℕ) → length (littleBytes width v) ≡ width
-bytes-length zero v = refl
-bytes-length (suc width) v = ap suc (bytes-length width (v / 256))
 
 -- the first i bytes of v are kept, and those of `left` are to come
 pub record Spelled (width v : ℕ) (before : List ℕ) (kept : ℕ) (buffer : List ℕ) (n left i : ℕ) : Type 0 where
@@ -30,24 +27,24 @@ module _ {width v kept n left i : ℕ} {before buffer : List ℕ} (p : Spelled w
   next : i < width → getD (littleBytes width v) i 0 ∷ drop (i + 1) (littleBytes width v) ≡ left % 256 ∷ littleBytes (width - (i + 1)) (left / 256)
   next h =
       let one : width - i ≡ suc (width - (i + 1)) = omega arith in
-      sym (rest-at 0 (littleBytes width v) i (omega (arith, bytes-length width v))) ∙ p .to-come ∙ ap (λ (k : ℕ). littleBytes k left) one
+      sym (rest-at 0 (littleBytes width v) i (omega (arith, little-length width v))) ∙ p .to-come ∙ ap (λ (k : ℕ). littleBytes k left) one
 
   pub spelled-on : {buffer' : List ℕ} {n' : ℕ} → i < width → Kept buffer n (left % 256 ∷ []) buffer' n'
       → Spelled width v before kept buffer' n' (left / 256) (i + 1)
   spelled-on h q =
       let byte : getD (littleBytes width v) i 0 ≡ left % 256 = ap (λ (l : List ℕ). getD l 0 0) (next h) in
       record {
-        so-far = so-far-on bytes-join (p .so-far) (omega (arith, bytes-length width v)) (rw byte q);
+        so-far = so-far-on bytes-join (p .so-far) (omega (arith, little-length width v)) (rw byte q);
         to-come = ap (drop 1) (next h);
       }
 
   pub spelled-all : width ≤ i → Kept before kept (littleBytes width v) buffer n
-  spelled-all h = so-far-end bytes-join (p .so-far) (omega (arith, bytes-length width v))
+  spelled-all h = so-far-end bytes-join (p .so-far) (omega (arith, little-length width v))
 
 pub each-length : (width : ℕ) (vs : List ℕ) → length (eachIn width vs) ≡ width * length vs
 unfolding eachIn
 each-length width [] = omega arith
-each-length width (v ∷ vs) = rw (length-append, bytes-length width v, each-length width vs) (omega arith)
+each-length width (v ∷ vs) = rw (length-append, little-length width v, each-length width vs) (omega arith)
 
 pub each-join : (width : ℕ) → Joins (eachIn width)
 unfolding eachIn

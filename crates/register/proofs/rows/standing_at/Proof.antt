@@ -4,11 +4,11 @@ use Rattle.register.specs.Rows.{standingAt}
 use borrow.Author.Needs.{needs}
 
 returns : tie.Need-returns
-returns c = rw (c .before .before .found .given .1) (c .standing-in .ensures)
+returns c = rw ((c .before .before .found) .given .1) ((c .standing-in) .ensures)
 
 returns-2 : tie.Need-returns-2
 unfolding standingAt
-returns-2 c = rw (c .enum-told .given .1)
+returns-2 c = rw ((c .enum-told) .given .1)
 
 pub standing-at-spec : {M : Type 1} → statement M
 standing-at-spec =

@@ -5,11 +5,11 @@ use borrow.Author.Needs.{needs}
 
 returns : tie.Need-returns
 unfolding put
-returns c = rw (c .before .before .before .before .before .found .given .1) (c .before .before .restate .ensures)
+returns c = rw ((c .before .before .before .before .before .found) .given .1) ((c .before .before .restate) .ensures)
 
 returns-2 : tie.Need-returns-2
 unfolding put
-returns-2 c = rw (c .before .before .before .before .enum-told .given .1) (c .before .before .append .ensures)
+returns-2 c = rw ((c .before .before .before .before .enum-told) .given .1) ((c .before .before .append) .ensures)
 
 pub put-spec : {M : Type 1} → statement M
 put-spec =

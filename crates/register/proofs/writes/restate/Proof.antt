@@ -4,31 +4,35 @@ use borrow.Author.Tests.{not-true, not-false}
 use mathlib.Core.Path.{_≡_, sym, _∙_}
 use mathlib.Core.Bool.{true}
 use Rattle.register.specs.Frame.{isUsed}
-use Rattle.register.proofs.RowLaws.{used-row-within}
-use Rattle.register.proofs.WriteLaws.{restated-not, restated-stored}
+use Rattle.register.proofs.WidthLaws.{RowAt}
+use Rattle.register.proofs.RowLaws.{used-row}
+use Rattle.register.proofs.WriteLaws.{value-within, restated-not, restated-stored}
 use borrow.Author.Needs.{needs}
 use native.Mathlib.Omega.{arith}
 
-inside : (c : tie.Else1) → isUsed 1 0 (c .before .before .before .before .args .register .now) (c .before .before .before .before .args .row) ≡ true
-inside c = sym (c .before .is-used .ensures) ∙ not-false _ (c .if1 .left)
+inside : (c : tie.Else1) → isUsed ((c .before .before .before .before .args) .register .now) ((c .before .before .before .before .args) .row) ≡ true
+inside c = sym ((c .before .is-used) .ensures) ∙ not-false _ ((c .if1) .left)
+
+row : (c : tie.Else1) → RowAt ((c .before .before .before .before .args) .width) ((c .before .before .before .before .args) .register .now) ((c .before .before .before .before .args) .row)
+row c = used-row ((c .before .before .before .before .args) .width) ((c .before .before .before .before .args) .register .now) ((c .before .before .before .before .args) .row) (c .before .before .before .before .pre) (inside c)
 
 returns : tie.Need-returns
-returns c = restated-not _ _ _ _ _ (sym (c .before .is-used .ensures) ∙ not-true _ (c .if1 .taken))
+returns c = restated-not _ _ _ (sym ((c .before .is-used) .ensures) ∙ not-true _ ((c .if1) .taken))
 
-mul-register : tie.Need-mul-register
-mul-register c = omega (arith, used-row-within 1 0 _ _ (inside c))
+mul-write-value : tie.Need-mul-write-value
+mul-write-value c = omega (arith, row (c .before) .within)
 
-add-register : tie.Need-add-register
-add-register c = omega (arith, used-row-within 1 0 _ _ (inside c))
+add-write-value : tie.Need-add-write-value
+add-write-value c = omega (arith, row (c .before) .within)
 
-add-register-2 : tie.Need-add-register-2
-add-register-2 c = omega (arith, used-row-within 1 0 _ _ (inside c))
+add-write-value-2 : tie.Need-add-write-value-2
+add-write-value-2 c = omega (arith, value-within (row (c .before)))
 
-slice-write-register : tie.Need-slice-write-register
-slice-write-register c = omega (arith, used-row-within 1 0 _ _ (inside c))
+write-value-requires : tie.Need-write-value-requires
+write-value-requires c κs = (row (c .before) .known, omega (arith, value-within (row (c .before))))
 
 returns-2 : tie.Need-returns-2
-returns-2 c = restated-stored 1 0 _ _ _ (inside c)
+returns-2 c = (c .before .before .write-value) .ensures ∙ restated-stored ((c .before .before .before .before .before .before .before .before .args) .register .now) ((c .before .before .before .before .before .before .before .before .args) .row) ((c .before .before .before .before .before .before .before .before .args) .state) ((c .before .before .before .before .before .before .before .before .args) .day) (c .before .before .before .before .before .before .before .before .pre) (inside (c .before .before .before .before))
 
 pub restate-spec : {M : Type 1} → statement M
 restate-spec =
@@ -37,9 +41,9 @@ restate-spec =
     (λ c κs. search needs)
     (λ c. search needs)
     returns
-    mul-register
-    add-register
-    add-register-2
-    slice-write-register
+    mul-write-value
+    add-write-value
+    add-write-value-2
+    write-value-requires
     (λ c. search needs)
     returns-2)
