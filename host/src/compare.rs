@@ -5,7 +5,7 @@ use std::io::{self, BufRead, Write};
 
 use crate::codes::{answer_words, words, CODES};
 use crate::file::{Answered, Case, Reader, MARKS};
-use crate::reference::Outcome;
+use crate::reference::{Outcome, Version};
 
 /// How many differences are printed in full.
 const SHOWN: usize = 10;
@@ -92,8 +92,9 @@ fn call(case: &Case) -> String {
     let _ = write!(text, "  submitted {} at microsecond {}; ", case.day, case.micro);
     let _ = write!(text, "Polish identifiers: {}; ", case.polish);
     let _ = write!(text, "{} findings entries; register of {} bytes", case.findings.len(), case.register.len());
-    if let Some(&[_, _, _, _, _, a, b, c, d]) = case.register.first_chunk() {
-        let _ = write!(text, ", {} rows used", u32::from_le_bytes([a, b, c, d]));
+    if let Some(&[_, _, _, v, w, a, b, c, d]) = case.register.first_chunk() {
+        let (version, used) = (u16::from_le_bytes([v, w]), u32::from_le_bytes([a, b, c, d]));
+        let _ = write!(text, ", version {version}, {used} rows used");
     }
     for (mark, list) in MARKS.iter().zip(&case.lists) {
         let _ = write!(text, "; {mark} {} bytes", list.len());
@@ -144,13 +145,20 @@ fn buffers(case: &Case, expected: &Answered, ours: &Answered) -> String {
     }
     if let Some(at) = (0..case.register.len()).find(|&at| expected.register[at] != ours.register[at]) {
         let (before, wanted, got) = (case.register[at], expected.register[at], ours.register[at]);
-        let place = match at.checked_sub(9) {
-            Some(at) => format!("row {}, byte {} of it", at / 74, at % 74),
-            None => "in its head".to_string(),
-        };
+        let place = place_in(&case.register, at);
         let _ = writeln!(text, "  register byte {at} ({place}): expected {wanted}, ours {got}, before {before}");
     }
     text
+}
+
+/// Where a byte of a register stands, by the rows of its version.
+fn place_in(register: &[u8], at: usize) -> String {
+    let version = register.get(3..5).and_then(|number| Version::of(u16::from_le_bytes([number[0], number[1]])));
+    match (at.checked_sub(9), version) {
+        (None, _) => "in its head".to_string(),
+        (Some(_), None) => "behind its head".to_string(),
+        (Some(at), Some(version)) => format!("row {}, byte {} of it", at / version.width(), at % version.width()),
+    }
 }
 
 #[cfg(test)]
@@ -202,7 +210,7 @@ mod tests {
         let case = Case {
             line: b"NEW|a\xff".to_vec(),
             lists: std::array::from_fn(|_| b"123".to_vec().into()),
-            register: vec![0; 83],
+            register: [Version::One.head(0), vec![0; 74]].concat(),
             day: 20250322,
             micro: 7,
             polish: 256,
@@ -219,7 +227,7 @@ mod tests {
         let told = describe(5, &case, &expected, Some(&ours));
         for part in [
             "case 5\n  line (6 bytes): NEW|a\\xff\n",
-            "at microsecond 7; Polish identifiers: 256; 138 findings entries; register of 83 bytes, 0 rows used; LEI 3 bytes; CTY 3 bytes;",
+            "at microsecond 7; Polish identifiers: 256; 138 findings entries; register of 83 bytes, version 1, 0 rows used; LEI 3 bytes; CTY 3 bytes;",
             "expected: answer 0 (judged), count 2, words 0000000000000003 0000000000000000 0000000000000000\n",
             "ours: answer 9 (The line is over 4,096 bytes), count 1, words 0000000000000001 0000000000000000 00",
             "in both: 23 A NEW line for a reference",
@@ -230,6 +238,14 @@ mod tests {
             "register byte 82 (row 0, byte 73 of it): expected 0, ours 1, before 0\n",
         ] {
             assert!(told.contains(part), "{part}\n{told}");
+        }
+    }
+
+    #[test]
+    fn places_in_a_register() {
+        for (version, place) in [(1, "row 2, byte 6 of it"), (2, "row 1, byte 76 of it"), (3, "behind its head")] {
+            assert_eq!(place_in(&[b'T', b'R', b'N', version, 0, 3, 0, 0, 0], 9 + 154), place);
+            assert_eq!(place_in(&[b'T', b'R', b'N', version, 0, 3, 0, 0, 0], 8), "in its head");
         }
     }
 

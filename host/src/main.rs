@@ -6,7 +6,7 @@ use std::fs::File;
 use std::io::{self, BufReader, BufWriter, Write};
 use std::process::ExitCode;
 
-use host::{amounts, compare, coverage, program, recipe, report};
+use host::{amounts, compare, conversions, coverage, program, recipe, report};
 
 const USAGE: &str = "usage:
   host cases SEED N FILE        make N calls with the results expected of them
@@ -14,6 +14,7 @@ const USAGE: &str = "usage:
   host compare FILE RESULTS     hold the results of the proved side against them
   host coverage FILE [TIMES]    count what the cases reach; each code alone at least TIMES (5)
   host amounts SEED N           N texts for cells 30, 33 and 38, with what is to be read in them
+  host conversions SEED N       N registers to be converted, with what comes of it
   host program                  the paper's program: standard input to standard output
   host report SEED N            an input for it of N lines, of every kind
   host drip SEED                standard input to standard output, in short pieces with pauses between
@@ -52,6 +53,12 @@ fn run(arguments: &[&str]) -> Result<bool, Box<dyn Error>> {
         ["amounts", seed, count] => {
             let count = count.parse().map_err(|_| format!("{count}: not a number of texts"))?;
             output.write_all(&amounts::cases(seed_in(seed)?, count))?;
+            output.flush()?;
+            Ok(true)
+        }
+        ["conversions", seed, count] => {
+            let count = count.parse().map_err(|_| format!("{count}: not a number of conversions"))?;
+            output.write_all(conversions::cases(seed_in(seed)?, count).as_bytes())?;
             output.flush()?;
             Ok(true)
         }

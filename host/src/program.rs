@@ -4,9 +4,9 @@
 use std::io::{self, BufRead, Write};
 
 use crate::codes::COUNT_WITHOUT_POLISH;
-use crate::reference::{judge_line, Lists, Moment, Register};
+use crate::reference::{judge_line, Lists, Moment, Register, Version};
 
-/// The head of a list or register without rows.
+/// A list without rows.
 fn empty(mark: &str) -> Vec<u8> {
     [mark.as_bytes(), &1u16.to_le_bytes(), &0u32.to_le_bytes()].concat()
 }
@@ -15,8 +15,8 @@ fn empty(mark: &str) -> Vec<u8> {
 pub fn run(mut input: impl BufRead, mut output: impl Write) -> io::Result<()> {
     let lists = Lists::read(&empty("LEI"), &empty("CTY"), &empty("CCY"), &empty("VEN"), &empty("INS"))
         .expect("empty lists are well framed");
-    let mut bytes = empty("TRN");
-    bytes.resize(9 + 4 * 74, 0);
+    let mut bytes = Version::One.head(0);
+    bytes.resize(Version::One.length(4), 0);
     let mut register = Register::open(&mut bytes).expect("an empty register is well framed");
     let moment = Moment::new(20250322, 43_200_000_000).expect("a real moment");
 

@@ -2,7 +2,8 @@
 //!
 //! Most cases have an aim: one of the 141 codes or 11 refusals, to be met just so or just missed. The recipe
 //! then knows what shall come out, from its own plain reading of the rules, and says so if the reference
-//! disagrees. Others are clean lines of all kinds, sequences over one register, and calls at random.
+//! disagrees. Others are clean lines of all kinds, registers of both versions at their edges, sequences over one
+//! register, and calls at random.
 
 mod bench;
 mod calls;
@@ -10,6 +11,7 @@ mod classes;
 mod draft;
 mod kinds;
 mod polish;
+pub(crate) mod registers;
 pub(crate) mod rng;
 mod rules;
 mod underlying;
@@ -62,14 +64,15 @@ pub struct Recipe {
     maker: Maker,
     /// Cases made so far.
     made: usize,
-    /// Aims, days at the edge of 281, patterns, clean lines, mistakes in cells 47 and 49 and Polish identifiers take
-    /// turns.
+    /// Aims, days at the edge of 281, patterns, clean lines, mistakes in cells 47 and 49, Polish identifiers and
+    /// registers take turns.
     aims: usize,
     ages: usize,
     patterns: usize,
     kinds: usize,
     mistakes: usize,
     numbers: usize,
+    registers: usize,
     /// The rest of a sequence.
     waiting: VecDeque<(Case, Intent)>,
 }
@@ -80,7 +83,18 @@ impl Recipe {
         let world = World::make(&mut rng);
         let maker = Maker { rng, world, polish: true };
         let waiting = VecDeque::new();
-        Recipe { maker, made: 0, aims: 0, ages: 0, patterns: 0, kinds: 0, mistakes: 0, numbers: 0, waiting }
+        Recipe {
+            maker,
+            made: 0,
+            aims: 0,
+            ages: 0,
+            patterns: 0,
+            kinds: 0,
+            mistakes: 0,
+            numbers: 0,
+            registers: 0,
+            waiting,
+        }
     }
 
     /// The next case, with what it shall come to.
@@ -93,12 +107,13 @@ impl Recipe {
             return case;
         }
         match self.maker.rng.below(100) {
-            0..=51 => self.aimed(),
-            52..=54 => self.age(),
-            55..=63 => self.pattern(),
-            64..=70 => self.clean(),
-            71..=74 => self.underlying(),
-            75..=84 => self.polish(),
+            0..=49 => self.aimed(),
+            50..=52 => self.age(),
+            53..=61 => self.pattern(),
+            62..=67 => self.clean(),
+            68..=71 => self.underlying(),
+            72..=80 => self.polish(),
+            81..=84 => self.register(),
             85..=90 => self.maker.mixture(),
             91..=94 => self.maker.nudges(),
             95..=96 => self.maker.wreck(),
@@ -190,6 +205,13 @@ impl Recipe {
             return self.maker.in_little_room(case, codes);
         }
         (case, Intent::Exactly(codes))
+    }
+
+    /// The next situation of a register in turn.
+    fn register(&mut self) -> (Case, Intent) {
+        let turn = self.registers;
+        self.registers += 1;
+        self.maker.register_turn(turn)
     }
 
     /// The next kind of clean line in turn; after all of them a cancellation.

@@ -17,7 +17,7 @@ mod verdict;
 pub use calendar::{Day, Moment, MICROS};
 pub use forms::{price, quantity, signed_amount, Decimal, Price, Quantity};
 pub use lists::{Lists, VenueKinds};
-pub use register::{Pair, Register, Standing};
+pub use register::{frame as register_frame, Pair, Register, Standing, Version};
 
 use report::{Cancellation, Report};
 use verdict::Verdict;
@@ -51,6 +51,8 @@ pub enum Refusal {
     LongLine = 9,
     Cells = 10,
     RegisterFull = 11,
+    /// Of a conversion alone.
+    ShortTarget = 12,
 }
 
 /// The answer to a call. The findings themselves and the register are in what the caller lent.
@@ -90,6 +92,15 @@ pub struct Call<'a> {
 /// Judges one call.
 pub fn judge(call: Call) -> Outcome {
     judge_or_refuse(call).unwrap_or_else(Outcome::from)
+}
+
+/// Writes a register of version 1 into `to` as one of version 2. Hands back 0, or the number of the refusal, and then
+/// `to` is as it was.
+pub fn convert(from: &[u8], to: &mut [u8]) -> u16 {
+    match register::convert(from, to) {
+        Ok(()) => 0,
+        Err(refusal) => refusal as u16,
+    }
 }
 
 fn judge_or_refuse(call: Call) -> Result<Outcome, Refusal> {
@@ -144,7 +155,7 @@ fn judge_cells(
                 polish::judge(&report, &mut verdict);
             }
             if let (Ok(pair), true) = (pair, verdict.is_clean()) {
-                register.set_live(&pair)?;
+                register.set_live(&pair, moment.day)?;
             }
         }
         b"CXL" => {
@@ -152,7 +163,7 @@ fn judge_cells(
             let pair = report.pair();
             rules::judge_cancellation(&report, lists, moment, pair.map(|pair| register.standing(&pair)), &mut verdict);
             if let (Ok(pair), true) = (pair, verdict.is_clean()) {
-                register.set_cancelled(&pair);
+                register.set_cancelled(&pair, moment.day);
             }
         }
         _ => verdict.add(1001),

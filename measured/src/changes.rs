@@ -1,7 +1,8 @@
-//! Calls to throw at the judge: good ones of the recipe, good ones changed here and there, and noise.
+//! Calls to throw at the proved functions: good ones of the recipe, good ones changed here and there, and noise.
 
 use host::file::Case;
 use host::recipe::Recipe;
+use host::reference::{register_frame, Version};
 
 /// A small generator of pseudo-random numbers (SplitMix64).
 struct Rng(u64);
@@ -48,9 +49,21 @@ impl Rng {
     }
 }
 
-/// Marks and row widths of the five lists, and of the register.
-const FRAMES: [(&[u8; 3], usize); 6] =
-    [(b"LEI", 30), (b"CTY", 10), (b"CCY", 12), (b"VEN", 13), (b"INS", 26), (b"TRN", 74)];
+/// Marks and row widths of the five lists.
+const FRAMES: [(&[u8; 3], usize); 5] = [(b"LEI", 30), (b"CTY", 10), (b"CCY", 12), (b"VEN", 13), (b"INS", 26)];
+
+/// A register to be converted, and where to.
+#[derive(Clone, Debug, PartialEq, Eq)]
+pub struct Conversion {
+    pub from: Vec<u8>,
+    pub to: Vec<u8>,
+}
+
+/// What is thrown.
+pub enum Thrown {
+    Judged(Case),
+    Converted(Conversion),
+}
 
 /// Makes one call after another.
 pub struct Calls {
@@ -67,8 +80,16 @@ impl Calls {
         Calls { rng: Rng::new(seed), recipe, before }
     }
 
+    /// One call in eight is a conversion.
+    pub fn next_call(&mut self) -> Thrown {
+        match self.rng.below(8) {
+            0 => Thrown::Converted(self.next_conversion()),
+            _ => Thrown::Judged(self.next_case()),
+        }
+    }
+
     /// Of ten calls one is good, seven are changed, one has noise in good frames, and one is noise all over.
-    pub fn next_call(&mut self) -> Case {
+    fn next_case(&mut self) -> Case {
         let (mut case, _) = self.recipe.next_case();
         match self.rng.below(10) {
             0 => {}
@@ -82,6 +103,34 @@ impl Calls {
         }
         self.before = case.clone();
         case
+    }
+
+    /// Of ten sources two are registers of the recipe, five are changed, two have noise in good frames, and one is noise
+    /// all over. Most targets have as much room as is needed or nearly so, and hold noise or a register.
+    fn next_conversion(&mut self) -> Conversion {
+        let (case, _) = self.recipe.next_case();
+        let mut from = case.register;
+        match self.rng.below(10) {
+            0..=1 => {}
+            2..=6 => {
+                for _ in 0..1 + self.rng.below(2) {
+                    self.change_bytes(&mut from, 0);
+                }
+            }
+            7..=8 => from = framed_register(&mut self.rng),
+            _ => from = self.rng.noise(400),
+        }
+        let rng = &mut self.rng;
+        // Mostly version 1, which alone can be converted.
+        if from.len() > 4 && rng.below(4) > 0 {
+            from[3..5].copy_from_slice(&1u16.to_le_bytes());
+        }
+        let needed = Version::Two.length(register_frame(&from).map_or(1, |(_, used)| used as usize));
+        let (more, any) = (needed + rng.below(200), rng.below(2100));
+        let length = rng.of(&[needed - 1, needed, needed, needed + 1, more, more, any, any % 10]);
+        let mut to = if rng.below(2) == 0 { self.before.register.clone() } else { Vec::new() };
+        to.resize_with(length, || rng.next() as u8);
+        Conversion { from, to }
     }
 
     /// Changes one thing about a call, mostly its line.
@@ -170,10 +219,12 @@ impl Calls {
     fn fill_frames(&mut self, case: &mut Case) {
         let rng = &mut self.rng;
         for (list, (mark, width)) in case.lists.iter_mut().zip(FRAMES) {
-            *list = framed(rng, mark, width).into();
+            let rows = rng.below(21);
+            *list = framed(rng, [&mark[..], &1u16.to_le_bytes(), &(rows as u32).to_le_bytes()].concat(), rows * width)
+                .into();
         }
         if rng.below(2) == 0 {
-            case.register = framed(rng, FRAMES[5].0, FRAMES[5].1);
+            case.register = framed_register(rng);
         }
         let mut cells: Vec<Vec<u8>> = (0..65).map(|_| rng.noise(40)).collect();
         cells.iter_mut().flatten().filter(|byte| **byte == b'|').for_each(|byte| *byte = b'I');
@@ -195,13 +246,16 @@ impl Calls {
     }
 }
 
-/// Up to 20 rows of noise behind a good head. For a register the rows are those used, and there may be room for more.
-fn framed(rng: &mut Rng, mark: &[u8; 3], width: usize) -> Vec<u8> {
-    let rows = rng.below(21);
-    let mut bytes = [&mark[..], &1u16.to_le_bytes(), &(rows as u32).to_le_bytes()].concat();
-    bytes.extend((0..rows * width).map(|_| rng.next() as u8));
-    if mark == b"TRN" {
-        bytes.extend(rng.noise(200));
-    }
-    bytes
+/// Rows of so many bytes in all, behind a good head.
+fn framed(rng: &mut Rng, mut head: Vec<u8>, rows: usize) -> Vec<u8> {
+    head.extend((0..rows).map(|_| rng.next() as u8));
+    head
+}
+
+/// Up to 20 used rows of noise, of either version, and perhaps room for more.
+fn framed_register(rng: &mut Rng) -> Vec<u8> {
+    let (version, rows) = (rng.of(&Version::ALL), rng.below(21));
+    let mut register = framed(rng, version.head(rows as u32), rows * version.width());
+    register.extend(rng.noise(200));
+    register
 }

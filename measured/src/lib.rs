@@ -1,4 +1,4 @@
-//! The proved judge, as include/boanhetri.h declares it, called as the reference is.
+//! The proved functions, as include/boanhetri.h declares them, called as the reference's are.
 
 pub mod changes;
 pub mod guarded;
@@ -35,6 +35,8 @@ extern "C" {
         findings: *mut u16,
         findings_len: usize,
     ) -> Verdict;
+
+    fn boanhetri_convert(from: *const u8, from_len: usize, to: *mut u8, to_len: usize) -> u16;
 }
 
 /// Judges one call by the proved function.
@@ -65,4 +67,10 @@ pub fn judge(call: Call) -> Outcome {
         )
     };
     Outcome { answer: verdict.answer, count: verdict.count, words: verdict.words }
+}
+
+/// Converts a register by the proved function. Hands back its answer.
+pub fn convert(from: &[u8], to: &mut [u8]) -> u16 {
+    // As above: the target is written and overlaps nothing.
+    unsafe { boanhetri_convert(from.as_ptr(), from.len(), to.as_mut_ptr(), to.len()) }
 }

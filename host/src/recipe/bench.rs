@@ -2,10 +2,11 @@
 
 use crate::codes::{CODES, COUNT_WITHOUT_POLISH};
 use crate::file::{List, LISTS};
-use crate::reference::{Day, MICROS};
+use crate::reference::{convert, Day, Version, MICROS};
 
-use super::draft::{any_pair, days_before, Draft, Maker, Want};
+use super::draft::{days_before, Draft, Maker, Want};
 use super::kinds::Kind;
+use super::registers::any_pair;
 use super::rng::{Rng, CODE};
 use super::world::{oldest, World, NOT_LAPSED};
 
@@ -55,14 +56,25 @@ pub fn sized_bench_day(seed: u64, count: usize, list_rows: usize, register_rows:
     BenchDay { lists, register, day: s.number(), micro: MICROS - 1, lines: lines.collect(), clean: count / 2 }
 }
 
+impl BenchDay {
+    /// The same day over a register of version 2, with room for as many rows: what conversion makes of the other.
+    pub fn in_version_2(mut self) -> BenchDay {
+        let rows = Version::One.capacity(self.register.len() as u64) as usize;
+        let mut converted = vec![0; Version::Two.length(rows)];
+        assert_eq!(convert(&self.register, &mut converted), 0, "a day starts with version 1");
+        self.register = converted;
+        self
+    }
+}
+
 /// So many rows of pairs that no line is about, and room for more.
 fn register(mut rng: Rng, used: usize) -> Vec<u8> {
-    let mut register = [&b"TRN"[..], &1u16.to_le_bytes(), &(used as u32).to_le_bytes()].concat();
+    let mut register = Version::One.head(used as u32);
     for _ in 0..used {
         register.extend(any_pair(&mut rng));
         register.push(rng.of(&[1, 1, 1, 2]));
     }
-    register.resize(register.len() + 74 * ROOM, 0);
+    register.resize(Version::One.length(used + ROOM), 0);
     register
 }
 
@@ -180,12 +192,18 @@ mod tests {
         u32::from_le_bytes(list[5..9].try_into().unwrap()) as usize
     }
 
-    /// Judges a day and looks at what was promised of it.
+    /// Judges a day, over registers of both versions, and looks at what was promised of it.
     fn check(day: &BenchDay, rows: usize, used_before: usize) {
+        check_version(day, Version::One, rows, used_before);
+        check_version(&day.clone().in_version_2(), Version::Two, rows, used_before);
+    }
+
+    fn check_version(day: &BenchDay, version: Version, rows: usize, used_before: usize) {
         assert!(day.lists.iter().all(|list| list_rows(list) == rows));
         let [lei, cty, ccy, ven, ins] = &day.lists;
         let lists = Lists::read(lei, cty, ccy, ven, ins).unwrap();
-        assert_eq!((used(&day.register), day.register.len()), (used_before, 9 + 74 * (used_before + 1024)));
+        assert!(day.register.starts_with(&version.head(used_before as u32)));
+        assert_eq!(day.register.len(), 9 + version.width() * (used_before + 1024));
         let mut bytes = day.register.clone();
         let mut register = Register::open(&mut bytes).unwrap();
         let moment = Moment::new(day.day, day.micro).unwrap();

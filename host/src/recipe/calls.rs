@@ -1,14 +1,14 @@
-//! Whole calls: cell forms, refusals, sequences over one register, and calls at random.
+//! Whole calls: cell forms, refusals, and calls at random.
 
 use crate::codes;
-use crate::file::{Case, FILLER, LONGEST_LINE, LONGEST_REGISTER};
+use crate::file::{Case, FILLER, LONGEST_LINE};
 use crate::reference::MICROS;
 
 use super::draft::{timestamp, Draft, Maker, Want};
-use super::rng::{Rng, CODE};
+use super::rng::Rng;
 use super::underlying::{self, Kind, Size};
-use super::values::{nudged, scheme, well_formed, well_shaped, NEEDED};
-use super::world::{oldest, ANY_STATUS};
+use super::values::{nudged, scheme, well_formed, well_shaped};
+use super::world::oldest;
 use super::Intent;
 
 /// Cells whose contents no rule reads: well formed, they leave a clean line clean.
@@ -25,14 +25,6 @@ const UNREAL_DAYS: [u32; 18] = [
     0, 18991231, 19000229, 20230229, 21000229, 20250431, 20250100, 20250132, 20250001, 20251301, 20251232, 100000101,
     99999999, 4294967295, 20250230, 20240230, 2025032, 202503220,
 ];
-
-/// A pair of a sequence.
-struct Tracked {
-    entity: [u8; 20],
-    reference: Vec<u8>,
-    /// What its last accepted line made of it.
-    live: Option<bool>,
-}
 
 impl Maker {
     /// A cell malformed, or well formed at the edge of its form.
@@ -162,19 +154,6 @@ impl Maker {
         }
     }
 
-    /// All rows used; or no row at all. The line has a finding, since there may be no room for it.
-    fn odd_register(&mut self, mut draft: Draft, mut case: Case) -> (Case, Intent) {
-        if self.rng.one_in(2) {
-            let rows = (case.register.len() - 9) / 74;
-            case.register[5..9].copy_from_slice(&(rows as u32).to_le_bytes());
-        } else {
-            case.register = [b"TRN", &1u16.to_le_bytes()[..], &[0; 4]].concat();
-        }
-        draft.set(6, "");
-        case.line = draft.line();
-        (case, Intent::Judged)
-    }
-
     /// A call with two or three things wrong: the lowest refusal is given.
     pub fn refusals(&mut self) -> (Case, Intent) {
         let mut draft = if self.rng.one_in(4) { self.cancellation() } else { self.clean(Want::default()) };
@@ -290,25 +269,6 @@ impl Maker {
         list
     }
 
-    fn damage_register(&mut self, register: &mut Vec<u8>) {
-        let rng = &mut self.rng;
-        let rows = register.len().saturating_sub(9) / 74;
-        match rng.below(7) {
-            0 => register.truncate(rng.below(9)),
-            1 => register[rng.below(3)] ^= rng.of(&[1, 0x20, 0x80]),
-            2 => register[3..5].copy_from_slice(&rng.of(&[0u16, 2, 256, 257, 65535]).to_le_bytes()),
-            // More rows used than there are.
-            3 | 4 => register[5..9].copy_from_slice(&(rows as u32 + 1).to_le_bytes()),
-            5 => register[5..9].copy_from_slice(&rng.of(&[u32::MAX, 1 << 31, 1000]).to_le_bytes()),
-            _ => {
-                // The last row lacks a byte.
-                let used = rows.max(1);
-                register.resize(9 + used * 74 - 1, 0);
-                register[5..9].copy_from_slice(&(used as u32).to_le_bytes());
-            }
-        }
-    }
-
     /// Fills the text cells so that the line gets this length and stays as it was otherwise.
     fn lengthen(&mut self, draft: &mut Draft, length: usize) {
         let mut cells = TEXTS.to_vec();
@@ -326,121 +286,6 @@ impl Maker {
             draft.set(cell, text);
         }
         assert_eq!(draft.line().len(), length);
-    }
-
-    /// A register with no room: a clean new pair is refused; one in it already, one with a finding, and a
-    /// cancellation are not.
-    fn full_register(&mut self, hit: bool) -> (Case, Intent) {
-        let mut draft = self.clean(Want::default());
-        draft.full = true;
-        draft.states.clear();
-        if hit {
-            return (self.case(&draft), Intent::Refused(11));
-        }
-        match self.rng.below(5) {
-            0 => {
-                draft.states = self.rng.of(&[&[2][..], &[0], &[2, 1]]).to_vec();
-                (self.case(&draft), Intent::Exactly(Vec::new()))
-            }
-            1 => {
-                draft.states = vec![1];
-                (self.case(&draft), Intent::Exactly(vec![23]))
-            }
-            2 => {
-                let cell = self.rng.of(&NEEDED[1..]);
-                self.malform(&mut draft, cell);
-                (self.case(&draft), Intent::Exactly(vec![1000 + cell as u16]))
-            }
-            3 => {
-                let mut draft = self.cancellation();
-                draft.full = true;
-                if self.rng.one_in(2) {
-                    draft.states.clear();
-                    return (self.case(&draft), Intent::Exactly(vec![24]));
-                }
-                (self.case(&draft), Intent::Exactly(Vec::new()))
-            }
-            _ => {
-                // Room for just one more.
-                let mut case = self.case(&draft);
-                let rows = (case.register.len() - 9) / 74;
-                case.register.splice(9 + rows * 74..9 + rows * 74, [0; 74]);
-                (case, Intent::Exactly(Vec::new()))
-            }
-        }
-    }
-
-    /// Calls one after another over one register: new, new again, cancelled, cancelled again, new in the same
-    /// row, until there is no room. The register of each call is what the one before left.
-    pub fn sequence(&mut self) -> Vec<(Case, Intent)> {
-        let rows = self.rng.of(&[0, 1, 2, 2, 3, 4]);
-        let tail = self.rng.of(&[0, 0, 1, 73]);
-        let mut register = [&b"TRN"[..], &1u16.to_le_bytes(), &[0; 4]].concat();
-        let fill = self.rng.of(&[0, 0, 1, 0xff]);
-        register.resize(9 + 74 * rows + tail, fill);
-        assert!(register.len() <= LONGEST_REGISTER);
-
-        let mut pairs = self.like_pairs();
-        let mut calls = Vec::new();
-        for _ in 0..self.rng.between(6, 16) {
-            let full = pairs.iter().filter(|pair| pair.live.is_some()).count() == rows;
-            let which = self.rng.below(pairs.len());
-            let (draft, intent) = self.step(&mut pairs[which], full);
-            let mut case = self.case(&draft);
-            case.register = register;
-            register = case.judge().register;
-            calls.push((case, intent));
-        }
-        calls
-    }
-
-    /// Pairs that differ in entity or reference only.
-    fn like_pairs(&mut self) -> Vec<Tracked> {
-        let t = self.world.t;
-        let entities = [self.good_lei(t, &[1]), self.good_lei(t, &[1])];
-        let length = self.rng.of(&[1, 5, 51]);
-        let reference = self.rng.text(CODE, length);
-        let longer = [&reference[..], b"0"].concat();
-        let entities = if entities[0] == entities[1] { &entities[1..] } else { &entities };
-        let pair = |&entity| {
-            [&reference, &longer].map(|reference| Tracked { entity, reference: reference.clone(), live: None })
-        };
-        entities.iter().flat_map(pair).collect()
-    }
-
-    /// A line for a pair, new or a cancellation, and what it comes to with the register as it stands.
-    fn step(&mut self, pair: &mut Tracked, full: bool) -> (Draft, Intent) {
-        let (t, s) = (self.world.t, self.world.s);
-        let new = !self.rng.one_in(3);
-        let submitter = self.good_lei(s, ANY_STATUS);
-        let mut draft = if new {
-            let (entity, submitter) = (Some(pair.entity), Some(submitter));
-            self.clean(Want { t: Some(t), entity, submitter, firm: Some(true), ..Want::default() })
-        } else {
-            let mut draft = self.cancellation();
-            draft.set(4, pair.entity);
-            draft.set(6, submitter);
-            draft
-        };
-        draft.set(2, &pair.reference);
-        let mut found = match (new, pair.live) {
-            (true, Some(true)) => vec![23],
-            (false, None) => vec![24],
-            (false, Some(false)) => vec![25],
-            _ => Vec::new(),
-        };
-        if self.rng.one_in(6) {
-            // A rejected line leaves no trace.
-            self.malform(&mut draft, 6);
-            found.push(1006);
-        }
-        if found.is_empty() && pair.live.is_none() && full {
-            return (draft, Intent::Refused(11));
-        }
-        if found.is_empty() {
-            pair.live = Some(new);
-        }
-        (draft, Intent::Exactly(found))
     }
 
     /// Several cells changed at once, well formed or not.

@@ -1,7 +1,7 @@
 //! Lines in the making, and clean ones to start from.
 
 use crate::codes;
-use crate::file::{Case, FILLER, LONGEST_REGISTER};
+use crate::file::{Case, FILLER};
 use crate::reference::{Day, MICROS};
 
 use super::classes::{any_class, needs, Need, Needs};
@@ -9,7 +9,7 @@ use super::polish;
 use super::rng::{Rng, ALPHANUMERIC, CAPITALS, CODE};
 use super::underlying::{self, Kind, Size};
 use super::values;
-use super::world::{make_lei, oldest, Venue, World, ANY_STATUS, EARLY, LATE, NOT_LAPSED};
+use super::world::{oldest, Venue, World, ANY_STATUS, EARLY, LATE, NOT_LAPSED};
 
 /// A call in the making: the cells of its line, its moment and how the register is to know the pair.
 #[derive(Clone)]
@@ -67,7 +67,7 @@ impl Draft {
     }
 
     /// The 73 bytes of the pair, if its cells have lengths for it.
-    fn pair(&self) -> Option<[u8; 73]> {
+    pub fn pair(&self) -> Option<[u8; 73]> {
         let (entity, reference) = (self.get(4), self.get(2));
         if entity.len() != 20 || reference.len() > 52 {
             return None;
@@ -169,16 +169,6 @@ const NAMES: &[&str] =
 /// A party cell with the cells that go with it: first name, surname, date of birth.
 pub const PARTIES: [(usize, [usize; 2], usize); 4] =
     [(7, [9, 10], 11), (12, [13, 14], 15), (16, [18, 19], 20), (21, [22, 23], 24)];
-
-/// The 73 bytes of some pair.
-pub fn any_pair(rng: &mut Rng) -> [u8; 73] {
-    let mut pair = [0; 73];
-    pair[..20].copy_from_slice(&make_lei(rng));
-    let length = rng.between(1, 52);
-    pair[20] = length as u8;
-    pair[21..21 + length].copy_from_slice(&rng.text(CODE, length));
-    pair
-}
 
 /// Makes drafts within one world.
 pub struct Maker {
@@ -648,65 +638,6 @@ impl Maker {
             _ => {}
         }
         draft
-    }
-
-    /// A register in which the pair has rows of these states, among rows of other pairs, some of them nearly
-    /// the same.
-    pub fn register(&mut self, draft: &Draft) -> Vec<u8> {
-        let pair = draft.pair();
-        let mut rows: Vec<[u8; 74]> = Vec::new();
-        let row = |pair: &[u8; 73], state: u8| {
-            let mut row = [state; 74];
-            row[..73].copy_from_slice(pair);
-            row
-        };
-        let others = self.rng.of(&[0, 0, 0, 0, 1, 1, 1, 1, 1, 2, 2, 2, 3, 3, 3, 6, 18]);
-        for _ in 0..others {
-            let other = self.other_pair(pair.as_ref());
-            let state = self.rng.of(&[0, 1, 1, 2, 3]);
-            rows.push(row(&other, state));
-        }
-        if let Some(pair) = &pair {
-            let mut places: Vec<usize> = draft.states.iter().map(|_| self.rng.below(rows.len() + 1)).collect();
-            places.sort_unstable();
-            for (before, (place, state)) in places.iter().zip(&draft.states).enumerate() {
-                rows.insert(place + before, row(pair, *state));
-            }
-        }
-        let used = rows.len();
-        if !draft.full {
-            // Bytes behind the used rows mean nothing, even where they look like the pair.
-            for _ in 0..self.rng.of(&[1, 1, 2, 5]) {
-                rows.push(match (self.rng.below(4), &pair) {
-                    (0, Some(pair)) => row(pair, self.rng.of(&[1, 2])),
-                    (1, _) => self.rng.bytes(74).try_into().expect("74 bytes"),
-                    _ => [0; 74],
-                });
-            }
-        }
-        let tail = self.rng.of(&[0, 0, 0, 1, 37, 73]);
-        let tail = self.rng.bytes(tail);
-        let register = [&b"TRN"[..], &1u16.to_le_bytes(), &(used as u32).to_le_bytes(), &rows.concat(), &tail].concat();
-        assert!(register.len() <= LONGEST_REGISTER);
-        register
-    }
-
-    /// Another pair, often nearly the same.
-    fn other_pair(&mut self, pair: Option<&[u8; 73]>) -> [u8; 73] {
-        let rng = &mut self.rng;
-        let Some(pair) = pair.filter(|_| rng.one_in(2)) else { return any_pair(rng) };
-        let mut other = *pair;
-        let length = usize::from(pair[20]);
-        match rng.below(6) {
-            // Another entity, another length, another last character, something after the end.
-            0 => other[rng.below(20)] ^= 1,
-            1 => other[20] = other[20].wrapping_add(1),
-            2 => other[20] = other[20].wrapping_sub(1),
-            3 if length > 0 => other[20 + length] ^= 1,
-            4 if length < 52 => other[rng.between(21 + length, 72)] = rng.of(b"A\x01 0"),
-            _ => other[72] ^= 0x40,
-        }
-        other
     }
 
     /// The call of a draft, with a register made for it.

@@ -7,17 +7,17 @@ use super::calendar::Day;
 use super::cfi::Cfi;
 use super::{Isin, Lei, Mic, Refusal};
 
-/// The head of a list or register: a three-letter mark, 16-bit version 1, a 32-bit count. Hands back the count
-/// and what follows.
-pub(super) fn head<'a>(bytes: &'a [u8], mark: &[u8; 3]) -> Option<(u32, &'a [u8])> {
+/// The head of a list or register: a three-letter mark, a 16-bit version, a 32-bit count. Hands back the version, the
+/// count and what follows.
+pub(super) fn head<'a>(bytes: &'a [u8], mark: &[u8; 3]) -> Option<(u16, u32, &'a [u8])> {
     let (&[m1, m2, m3, v1, v2, c1, c2, c3, c4], rest) = bytes.split_first_chunk()?;
-    let ours = [m1, m2, m3] == *mark && u16::from_le_bytes([v1, v2]) == 1;
-    ours.then_some((u32::from_le_bytes([c1, c2, c3, c4]), rest))
+    let ours = [m1, m2, m3] == *mark;
+    ours.then_some((u16::from_le_bytes([v1, v2]), u32::from_le_bytes([c1, c2, c3, c4]), rest))
 }
 
 /// The rows of a list, if it is well framed.
 fn rows<'a, const WIDTH: usize>(list: &'a [u8], mark: &[u8; 3]) -> Option<&'a [[u8; WIDTH]]> {
-    let (count, rest) = head(list, mark)?;
+    let (1, count, rest) = head(list, mark)? else { return None };
     let (rows, left) = rest.as_chunks();
     (left.is_empty() && rows.len() as u64 == u64::from(count)).then_some(rows)
 }

@@ -267,6 +267,94 @@ fn the_first_row_of_a_pair_decides() {
     assert_eq!(sample.with(&[(1, "CXL")]).codes(), [24]);
 }
 
+/// The register of a sample made anew: of this version, so many bytes long, no row used, the rest filled.
+fn empty_register(version: Version, length: usize) -> Vec<u8> {
+    let mut register = version.head(0);
+    register.resize(length, 0xEE);
+    register
+}
+
+#[test]
+fn accepted_lines_write_their_day_in_version_2() {
+    let mut sample = clean();
+    sample.register = empty_register(Version::Two, 9 + 2 * 78 + 5);
+    let step = |sample: &mut Sample, status: &str, day: u32| {
+        sample.set(1, status);
+        sample.day = day;
+        let before = sample.register.clone();
+        let outcome = sample.judge();
+        assert!(outcome.answer == 0 && (outcome.count == 0 || sample.register == before));
+        assert_eq!(sample.register[..5], *b"TRN\x02\x00");
+        let day = u32::from_le_bytes(sample.register[83..87].try_into().unwrap());
+        (outcome.count, sample.register[5], sample.register[82], day)
+    };
+    assert_eq!(step(&mut sample, "CXL", 20250322), (1, 0, 0xEE, 0xEEEE_EEEE));
+    assert_eq!(step(&mut sample, "NEW", 20250322), (0, 1, 1, 20250322));
+    // New again, then with another mistake: what is rejected leaves the day.
+    assert_eq!(step(&mut sample, "NEW", 20250323), (1, 1, 1, 20250322));
+    sample.set(6, "x");
+    assert_eq!(step(&mut sample, "CXL", 20250323), (1, 1, 1, 20250322));
+    sample.set(6, E);
+    assert_eq!(step(&mut sample, "CXL", 20250324), (0, 1, 2, 20250324));
+    assert_eq!(step(&mut sample, "CXL", 20250325), (1, 1, 2, 20250324));
+    // In the same row, and on an earlier day than before.
+    assert_eq!(step(&mut sample, "NEW", 20250322), (0, 1, 1, 20250322));
+    // Another pair takes the next row, and the first keeps its day.
+    sample.set(2, "R2");
+    assert_eq!(step(&mut sample, "NEW", 20250326), (0, 2, 1, 20250322));
+    assert_eq!(sample.register[9 + 78 + 73..][..5], [1, 0xD6, 0xFE, 0x34, 0x01]);
+    sample.set(2, "R3");
+    let before = sample.register.clone();
+    assert_eq!((sample.judge().answer, sample.register == before), (11, true));
+    assert_eq!(sample.register[9 + 2 * 78..], [0xEE; 5]);
+}
+
+#[test]
+fn version_1_has_no_day() {
+    let mut sample = clean();
+    sample.register = empty_register(Version::One, 9 + 3 * 74);
+    for reference in ["R1", "R2"] {
+        assert_eq!(sample.set(2, reference).judge(), Outcome::default());
+    }
+    assert_eq!(sample.register[..9], Version::One.head(2));
+    assert_eq!(sample.register[83..83 + 23], [E.as_bytes(), b"\x02R2"].concat());
+    assert_eq!(sample.register[9 + 2 * 74..], [0xEE; 74]);
+}
+
+#[test]
+fn registers_at_their_edges() {
+    let answer = |version: u16, used: u32, length: usize| {
+        let mut sample = clean();
+        sample.register = [&b"TRN"[..], &version.to_le_bytes(), &used.to_le_bytes()].concat();
+        sample.register.resize(length, 0);
+        sample.judge().answer
+    };
+    // 19 rows of 78 bytes are two bytes more than 20 of 74.
+    let length = 9 + 19 * 78;
+    assert_eq!([19, 20, 21].map(|used| answer(1, used, length)), [0, 11, 6]);
+    assert_eq!([18, 19, 20].map(|used| answer(2, used, length)), [0, 11, 6]);
+    assert_eq!([17, 18, 19].map(|used| answer(2, used, length - 1)), [0, 11, 6]);
+    assert_eq!([0, 1, 2].map(|used| answer(2, used, 9 + 78)), [0, 11, 6]);
+    assert_eq!([0, 1].map(|used| answer(2, used, 9 + 77)), [11, 6]);
+    assert_eq!([0, 1].map(|used| answer(2, used, 9)), [11, 6]);
+    for version in [0, 3, 255, 256, 257, 258, 512, 513, 514, u16::MAX] {
+        assert_eq!(answer(version, 0, 9 + 78), 6);
+    }
+}
+
+#[test]
+fn a_converted_register_goes_on() {
+    let mut sample = clean();
+    sample.judge();
+    let mut converted = vec![0xEE; 9 + 2 * 78];
+    assert_eq!(convert(&sample.register, &mut converted), 0);
+    sample.register = converted;
+    assert_eq!(sample.codes(), [23]);
+    assert_eq!(sample.register[82..87], [1, 0, 0, 0, 0]);
+    assert_eq!(sample.set(1, "CXL").judge(), Outcome::default());
+    assert_eq!(sample.register[82..87], [2, 0xD2, 0xFE, 0x34, 0x01]);
+}
+
 #[test]
 fn cancellations_read_four_cells() {
     let mut sample = clean();

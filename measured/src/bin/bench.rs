@@ -4,13 +4,13 @@ use std::process::ExitCode;
 use std::time::{Duration, Instant};
 
 use host::codes::COUNT_WITHOUT_POLISH;
-use host::reference::{judge_line, Call, Lists, Moment, Register};
+use host::reference::{judge_line, Call, Lists, Moment, Register, Version};
 use host::{sized_bench_day, BenchDay};
 
 const USAGE: &str = "usage:
-  bench pace                    lines per second of both sides
-  bench growth                  time for a line as the lists and the register grow
-  bench once ours|reference     one round of one side, to count its instructions";
+  bench pace                            lines per second of both sides, over registers of both versions
+  bench growth                          time for a line as the lists and the register grow
+  bench once ours|reference [1|2]       one round of one side, to count its instructions; version 1 where none is said";
 
 const SEED: u64 = 1;
 const ROUNDS: usize = 5;
@@ -88,9 +88,23 @@ fn compare(day: &BenchDay) -> Pace {
     Pace { ours, reference }
 }
 
-fn print_pace() {
+/// The day of the comparison, over a register of this version.
+fn day_of(version: Version) -> BenchDay {
     let day = sized_bench_day(SEED, LINES, 64, 0);
-    let Pace { ours, reference } = compare(&day);
+    match version {
+        Version::One => day,
+        Version::Two => day.in_version_2(),
+    }
+}
+
+fn print_pace() {
+    print_pace_of(Version::One);
+    println!("\nOver a register of version 2, whose rows have a day:\n");
+    print_pace_of(Version::Two);
+}
+
+fn print_pace_of(version: Version) {
+    let Pace { ours, reference } = compare(&day_of(version));
     println!("| | Lines per second | Microseconds a line |\n|---|---|---|");
     println!("| ours | {:.0} | {ours:.2} |", 1e6 / ours);
     println!("| reference | {:.0} | {reference:.2} |", 1e6 / reference);
@@ -117,8 +131,8 @@ fn print_growth() {
 }
 
 /// One round of one side, for a program that counts instructions.
-fn judge_once(side: &str) {
-    let mut day = sized_bench_day(SEED, LINES, 64, 0);
+fn judge_once(side: &str, version: Version) {
+    let mut day = day_of(version);
     let mut bytes = std::mem::take(&mut day.register);
     let clean = match side {
         "ours" => ours(&day, &mut bytes),
@@ -133,7 +147,10 @@ fn main() -> ExitCode {
     match arguments[..] {
         ["pace"] => print_pace(),
         ["growth"] => print_growth(),
-        ["once", side @ ("ours" | "reference")] => judge_once(side),
+        ["once", side @ ("ours" | "reference")] | ["once", side @ ("ours" | "reference"), "1"] => {
+            judge_once(side, Version::One);
+        }
+        ["once", side @ ("ours" | "reference"), "2"] => judge_once(side, Version::Two),
         _ => {
             eprintln!("{USAGE}");
             return ExitCode::from(2);

@@ -1,4 +1,4 @@
-//! Calls the proved function with good, changed and random bytes, all of them against pages that nobody may touch.
+//! Calls the proved functions with good, changed and random bytes, all of them against pages that nobody may touch.
 
 use std::io::Write;
 use std::process::ExitCode;
@@ -8,7 +8,7 @@ use std::time::{Duration, Instant};
 use host::codes::{CODES, COUNT};
 use host::file::{Answered, Case};
 use host::reference::Call;
-use measured::changes::Calls;
+use measured::changes::{Calls, Conversion, Thrown};
 use measured::guarded::{Against, Guarded};
 
 const USAGE: &str = "usage: fuzz SEED COUNT [SECONDS]
@@ -80,6 +80,30 @@ impl Places {
         });
         Answered { outcome, findings: findings.to_vec(), register: register.to_vec() }
     }
+
+    /// Makes a conversion in the same way. Its source lies where it can only be read.
+    fn convert(&mut self, conversion: &Conversion, against: Against) -> Converted {
+        let from = self.read[0].show(&conversion.from, against);
+        let to = self.register.lend(&conversion.to, against);
+        let answer = measured::convert(from, to);
+        assert!(from == conversion.from, "a source that was written to");
+        Converted { answer, to: to.to_vec() }
+    }
+}
+
+/// What comes of a conversion: the answer and the whole target afterwards.
+#[derive(PartialEq, Eq)]
+struct Converted {
+    answer: u16,
+    to: Vec<u8>,
+}
+
+impl Converted {
+    /// Asks the reference.
+    fn by_reference(conversion: &Conversion) -> Converted {
+        let mut to = conversion.to.clone();
+        Converted { answer: host::reference::convert(&conversion.from, &mut to), to }
+    }
 }
 
 /// What is promised of every answer, whatever the reference says. The first promise that is broken, in words.
@@ -103,17 +127,33 @@ fn broken(case: &Case, answered: &Answered) -> Option<&'static str> {
     (count != 0 && answered.register != case.register).then_some("a register changed by a line with findings")
 }
 
+/// The answers to a conversion.
+const CONVERSIONS: [u16; 3] = [0, 6, 12];
+
 /// What came of all calls.
 struct Tally {
     calls: u64,
     answers: [u64; 12],
     clean: u64,
     codes: [u64; COUNT],
+    /// Calls judged over a register of version 2, and those of them without a finding.
+    version_2: [u64; 2],
+    conversions: [u64; CONVERSIONS.len()],
 }
 
 impl Tally {
+    fn add_conversion(&mut self, converted: &Converted) {
+        self.calls += 1;
+        let which = CONVERSIONS.iter().position(|answer| *answer == converted.answer).expect("the reference's answer");
+        self.conversions[which] += 1;
+    }
+
     fn add(&mut self, answered: &Answered) {
         self.calls += 1;
+        if answered.outcome.answer == 0 && answered.register[3] == 2 {
+            self.version_2[0] += 1;
+            self.version_2[1] += u64::from(answered.outcome.count == 0);
+        }
         self.answers[usize::from(answered.outcome.answer)] += 1;
         self.clean += u64::from(answered.outcome.answer == 0 && answered.outcome.count == 0);
         for code in answered.codes() {
@@ -125,10 +165,22 @@ impl Tally {
         println!("seed {seed}: {} calls, each made twice, in {:.0} s: no difference", self.calls, time.as_secs_f64());
         let refused: Vec<String> = (1..12).map(|number| format!("{number}: {}", self.answers[number])).collect();
         println!("judged: {}, of them without a finding: {}", self.answers[0], self.clean);
+        let [judged, clean] = self.version_2;
+        println!("judged with version 2: {judged}, of them without a finding: {clean}");
         println!("refused, by number: {}", refused.join(", "));
         let seen = self.codes.iter().filter(|times| **times > 0).count();
         let (rarest, code) = self.codes.iter().zip(CODES).min().expect("there are codes");
         println!("codes: {seen} of {COUNT} seen; the rarest is {code:03}, seen {rarest} times");
+        let [done, source, room] = self.conversions;
+        println!("conversions: {}; done: {done}, refused by 6: {source}, by 12: {room}", done + source + room);
+    }
+}
+
+/// Where two buffers of one length differ first, in words.
+fn first_difference(name: &str, expected: &[u8], ours: &[u8]) -> String {
+    match (0..ours.len()).find(|&at| expected[at] != ours[at]) {
+        Some(at) => format!("{name} byte {at}: {}, the reference has {}", ours[at], expected[at]),
+        None => format!("the {name} is the same"),
     }
 }
 
@@ -147,9 +199,35 @@ fn check(places: &mut Places, case: &Case) -> Result<Answered, String> {
     let expected = case.judge();
     if expected != answered {
         let (ours, theirs) = (answered.codes(), expected.codes());
-        return Err(format!("{:?} {ours:?}, the reference says {:?} {theirs:?}", answered.outcome, expected.outcome));
+        return Err(format!(
+            "{:?} {ours:?}, the reference says {:?} {theirs:?}; {}",
+            answered.outcome,
+            expected.outcome,
+            first_difference("register", &expected.register, &answered.register)
+        ));
     }
     Ok(answered)
+}
+
+/// Makes one conversion twice and holds it against the promises and the reference.
+fn check_conversion(places: &mut Places, conversion: &Conversion) -> Result<Converted, String> {
+    unsafe { alarm(PATIENCE) };
+    let converted = places.convert(conversion, Against::End);
+    let again = places.convert(conversion, Against::Start);
+    unsafe { alarm(0) };
+    let answer = converted.answer;
+    if answer != 0 && converted.to != conversion.to {
+        return Err(format!("answer {answer}, and yet something is written"));
+    }
+    if again != converted {
+        return Err(format!("the same conversion answered otherwise: {answer}, {}", again.answer));
+    }
+    let expected = Converted::by_reference(conversion);
+    if expected != converted {
+        let differs = first_difference("target", &expected.to, &converted.to);
+        return Err(format!("answer {answer}, the reference says {}; {differs}", expected.answer));
+    }
+    Ok(converted)
 }
 
 /// A call for a message. The seed makes it again, so the lists and the register are not printed.
@@ -157,6 +235,11 @@ fn in_words(case: &Case) -> String {
     let Case { line, register, day, micro, polish, findings, .. } = case;
     let (line, register, entries) = (line.escape_ascii(), register.len(), findings.len());
     format!("day {day}, micro {micro}, polish {polish}, register of {register} bytes, {entries} entries\n{line}")
+}
+
+fn conversion_in_words(Conversion { from, to }: &Conversion) -> String {
+    let head = &from[..from.len().min(9)];
+    format!("a source of {} bytes with the head {head:02x?}, a target of {} bytes", from.len(), to.len())
 }
 
 fn run(seed: u64, count: u64, seconds: u64) -> Result<(), String> {
@@ -167,13 +250,21 @@ fn run(seed: u64, count: u64, seconds: u64) -> Result<(), String> {
     let start = Instant::now();
     let mut calls = Calls::new(seed);
     let mut places = Places::new();
-    let mut tally = Tally { calls: 0, answers: [0; 12], clean: 0, codes: [0; COUNT] };
+    let mut tally =
+        Tally { calls: 0, answers: [0; 12], clean: 0, codes: [0; COUNT], version_2: [0; 2], conversions: [0; 3] };
     while tally.calls < count && start.elapsed() < Duration::from_secs(seconds) {
-        CALL.store(tally.calls + 1, Ordering::Relaxed);
-        let case = calls.next_call();
-        let answered = check(&mut places, &case)
-            .map_err(|what| format!("call {} of seed {seed}: {what}\n{}", tally.calls + 1, in_words(&case)))?;
-        tally.add(&answered);
+        let number = tally.calls + 1;
+        CALL.store(number, Ordering::Relaxed);
+        let told = |what: String, call: String| format!("call {number} of seed {seed}: {what}\n{call}");
+        match calls.next_call() {
+            Thrown::Judged(case) => {
+                tally.add(&check(&mut places, &case).map_err(|what| told(what, in_words(&case)))?);
+            }
+            Thrown::Converted(conversion) => {
+                let converted = check_conversion(&mut places, &conversion);
+                tally.add_conversion(&converted.map_err(|what| told(what, conversion_in_words(&conversion)))?);
+            }
+        }
     }
     tally.print(seed, start.elapsed());
     Ok(())
