@@ -90,63 +90,94 @@ fn state_number(standing: Standing) -> u64
     }
 }
 
-fn set_pair(lent: &mut [u8], live: bool, pair: &[u8; 73]) {
-    let found = register::find(lent, pair);
+fn set_pair(lent: &mut [u8], live: bool, pair: &[u8; 73], day: u32) {
+    let width = register::row_width(lent);
+    let found = register::find(lent, width, pair);
     if live {
-        register::set_live(lent, found, pair);
+        register::set_live(lent, width, found, pair, day);
     } else {
-        register::set_cancelled(lent, found);
+        register::set_cancelled(lent, width, found, day);
     }
 }
 
-fn set_in(all: &mut [u8], n: usize, live: bool, pair: &[u8; 73]) {
+fn set_in(all: &mut [u8], n: usize, live: bool, pair: &[u8; 73], day: u32) {
     if n <= all.len() {
-        set_pair(&mut all[..n], live, pair);
+        set_pair(&mut all[..n], live, pair, day);
     }
 }
 
-// Sets the pair live or cancelled in the register of the first n bytes.
-fn set_in_first(space: &mut [u8; SPACE], n: usize, live: bool, pair: &[u8; 73]) {
-    set_in(&mut space[..], n, live, pair);
+// Sets the pair live or cancelled on a day, in the register of the first n bytes.
+fn set_in_first(space: &mut [u8; SPACE], n: usize, live: bool, pair: &[u8; 73], day: u32) {
+    set_in(&mut space[..], n, live, pair, day);
 }
 
-// Whether a register, after its pair was set live or cancelled, is what is written behind it.
-fn is_after(live: bool, pair: &[u8; 73], input: &[u8]) -> bool {
+// Whether a register, after its pair was set live or cancelled on a day, is what is written behind it.
+fn is_after(live: bool, pair: &[u8; 73], day: u32, input: &[u8]) -> bool {
     let end = place_of(input, b' ', 0);
     let mut space = [0u8; SPACE];
     let n = unhex(text::head(input, end), &mut space);
-    set_in_first(&mut space, n, live, pair);
+    set_in_first(&mut space, n, live, pair, day);
     let mut wanted = [0u8; SPACE];
     let w = unhex(text::rest(input, end + 1), &mut wanted);
     text::same(first_of(&space, n), first_of(&wanted, w))
 }
 
-// trn_framed, trn_capacity, trn_used, trn_full on a register.
-fn of_head(call: &[u8], register: &[u8]) -> u64 {
-    if text::same(call, b"trn_framed") {
-        return yes(register::framed(register));
+fn convert_in(from: &[u8], all: &mut [u8], n: usize) -> u64 {
+    if n <= all.len() {
+        return register::convert(from, &mut all[..n]) as u64;
     }
-    if text::same(call, b"trn_capacity") {
-        return register::capacity(register) as u64;
+    UNKNOWN
+}
+
+// Converts a register into the target of the first n bytes.
+fn convert_in_first(from: &[u8], space: &mut [u8; SPACE], n: usize) -> u64 {
+    convert_in(from, &mut space[..], n)
+}
+
+// The answer of converting a register into a target, where the target then is what is written behind both; else 99.
+fn answer_of_conversion(input: &[u8]) -> u64 {
+    let first = place_of(input, b' ', 0);
+    let second = place_of(input, b' ', first + 1);
+    let mut from = [0u8; SPACE];
+    let f = unhex(text::head(input, first), &mut from);
+    let mut to = [0u8; SPACE];
+    let t = unhex(text::part(input, first + 1, second), &mut to);
+    let answer = convert_in_first(first_of(&from, f), &mut to, t);
+    let mut wanted = [0u8; SPACE];
+    let w = unhex(text::rest(input, second + 1), &mut wanted);
+    if text::same(first_of(&to, t), first_of(&wanted, w)) {
+        return answer;
+    }
+    99
+}
+
+// trn_width, trn_used, trn_full on a register.
+fn of_head(call: &[u8], register: &[u8]) -> u64 {
+    let width = register::row_width(register);
+    if text::same(call, b"trn_width") {
+        return width as u64;
     }
     if text::same(call, b"trn_used") {
         return register::used(register) as u64;
     }
     if text::same(call, b"trn_full") {
-        return yes(register::full(register));
+        return yes(register::full(register, width));
     }
     UNKNOWN
 }
 
-// pair.ENTITY.REFERENCE on the pair's bytes; stands on a register, the row in front of the state; live and cancelled on one
-// before and one after.
+// pair.ENTITY.REFERENCE on the pair's bytes; stands on a register, the row in front of the state; live and cancelled, with a
+// day behind the reference, on one before and one after; convert on a source, a target before and the target after.
 pub fn of_register(call: &[u8], input: &[u8]) -> u64 {
     let pair = register::pair_bytes(word(call, 1), word(call, 2));
     if text::starts_with(call, b"live.") {
-        return yes(is_after(true, &pair, input));
+        return yes(is_after(true, &pair, number(word(call, 3)), input));
     }
     if text::starts_with(call, b"cancelled.") {
-        return yes(is_after(false, &pair, input));
+        return yes(is_after(false, &pair, number(word(call, 3)), input));
+    }
+    if text::same(call, b"convert") {
+        return answer_of_conversion(input);
     }
     let mut space = [0u8; SPACE];
     let n = unhex(input, &mut space);
@@ -155,7 +186,7 @@ pub fn of_register(call: &[u8], input: &[u8]) -> u64 {
         return yes(text::same(lent, &pair));
     }
     if text::starts_with(call, b"stands.") {
-        let row = row_number(register::find(lent, &pair)) % 100;
+        let row = row_number(register::find(lent, register::row_width(lent), &pair)) % 100;
         return row * 10 + state_number(register::standing_of(lent, &pair));
     }
     of_head(call, lent)
