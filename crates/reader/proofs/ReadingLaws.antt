@@ -5,7 +5,7 @@ use mathlib.Core.List.{List, [], _∷_}
 use Prim.Native.Nat.{ℕ, zero, suc, _+_, _-_, _≤_, _<_}
 use native.Mathlib.Numerals.{add-one}
 use native.Mathlib.Omega.{arith}
-use borrow.Author.Tests.{eq-eqb, ne-eqb, lt-ltb, le-ltb, ltb-true}
+use borrow.Author.Tests.{eq-eqb, ne-eqb, lt-ltb, le-ltb, ltb-true, ltb-false}
 use lib.Dec.{ltb}
 use lib.ListN.{length, getD, take, drop, length-drop, drop-of-length-le}
 use lib.Seq.{take-nil, take-all, drop-drop}
@@ -88,3 +88,33 @@ steps-from (suc n) s at h =
 -- from the line's start, as many steps as there are cells, or more, hand back exactly the cells
 pub steps-hand-cells : (s : List ℕ) (n : ℕ) → length (cellsOf s) ≤ n → handed n s 0 ≡ cellsOf s
 steps-hand-cells s n h = steps-from n s 0 (omega arith) ∙ take-all n (cellsOf s) h
+
+-- behind the first cell from a place on come those from the next place on
+blank-cells : (n : ℕ) → getD (cellsOf []) n [] ≡ []
+unfolding cellsOf
+blank-cells zero = refl
+blank-cells (suc n) = refl
+
+later-behind : (s : List ℕ) (at n : ℕ) → at ≤ length s → Behind (drop at s) → getD (laterCells (drop at s)) n [] ≡ getD (cellsOf (drop (placeAfter s at) s)) n []
+later-behind s at n h (ends p q) =
+    let l : length (drop at s) ≡ length s - at = length-drop at s in
+    let over : length s ≤ at + (length (firstCell (drop at s)) + 1) = omega (arith, p, l) in
+    rw (q, next-place s at h, drop-of-length-le s over) (sym (blank-cells n))
+later-behind s at n h (goes-on p q) = rw (q, next-place s at h, drop-drop)
+
+over-place : (s : List ℕ) (at : ℕ) → length s < at → placeAfter s at ≡ at
+unfolding placeAfter isOver
+over-place s at h = rw (lt-ltb _ _ h)
+
+pub later-cell : (s : List ℕ) (at n : ℕ) → getD (cellsOf (drop at s)) (suc n) [] ≡ getD (cellsOf (drop (placeAfter s at) s)) n []
+unfolding cellsOf
+later-cell s at n =
+    by-test
+    (ltb (length s) at)
+    (λ t.
+    let h : length s < at = ltb-true (length s) at t in
+    let over : length s ≤ at = omega arith in
+    let none : drop at s ≡ [] = drop-of-length-le s over in
+    ap (λ (l : List ℕ). getD (cellsOf l) (suc n) []) none
+    ∙ sym (ap (λ (k : ℕ). getD (cellsOf (drop k s)) n []) (over-place s at h) ∙ ap (λ (l : List ℕ). getD (cellsOf l) n []) none ∙ blank-cells n))
+    (λ t. later-behind s at n (ltb-false (length s) at t) (behind (drop at s)))

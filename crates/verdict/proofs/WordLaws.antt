@@ -25,7 +25,7 @@ pub record Lowest (k : ℕ) (table : List ℕ) (w : ℕ) : Type 0 where
   pub first : pick table (bitsOf k w) ≡ getD table (trailingZeros k w) 0 ∷ pick table (bitsOf k (w - 2 ^ trailingZeros k w))
   pub within : 2 ^ trailingZeros k w ≤ w
 
-odd-or-even : (w : ℕ) {A : Type 0} → (w % 2 ≡ 1 → A) → (w % 2 ≡ 0 → A) → A
+pub odd-or-even : (w : ℕ) {A : Type 0} → (w % 2 ≡ 1 → A) → (w % 2 ≡ 0 → A) → A
 odd-or-even w f g = by-test (eqb (w % 2) 1) (λ t. f (eqb-true _ _ t)) (λ t. g (omega (arith, eqb-false (w % 2) 1 t)))
 
 pub lowest : (k : ℕ) (table : List ℕ) (w : ℕ) → trailingZeros k w < length table → length table ≤ k → Lowest k table w
@@ -134,7 +134,7 @@ module _ {table : List ℕ} {word : ℕ} {before : List ℕ} {start : ℕ} {entr
         }
 
 -- bits behind bits take the table's codes in turn
-bits-length : (n w : ℕ) → length (bitsOf n w) ≡ n
+pub bits-length : (n w : ℕ) → length (bitsOf n w) ≡ n
 unfolding bitsOf
 bits-length zero w = refl
 bits-length (suc n) w = ap suc (bits-length n (w / 2))
@@ -173,7 +173,7 @@ unfolding overFrom
 listed-all listed = listed .entries-are
 
 -- the codes of three words, one word after the other
-three : (l : List ℕ) → length l ≡ 3 → l ≡ getD l 0 0 ∷ getD l 1 0 ∷ getD l 2 0 ∷ []
+pub three : (l : List ℕ) → length l ≡ 3 → l ≡ getD l 0 0 ∷ getD l 1 0 ∷ getD l 2 0 ∷ []
 three [] h = absurd (omega arith)
 three (u ∷ []) h = absurd (omega arith)
 three (u ∷ v ∷ []) h = absurd (omega arith)

@@ -1,0 +1,5 @@
+-- The laws that the crates above cite.
+pub mod RaiseLaws
+pub mod NameLaws
+pub mod SearchLaws
+mod Unique
