@@ -2,4 +2,4 @@
 pub mod RaiseLaws
 pub mod NameLaws
 pub mod SearchLaws
-mod Unique
+pub mod Unique
