@@ -1,9 +1,9 @@
 -- The three conditions of calls of `judge`, and that they bite.
-mod LineLaws
-mod FoundLaws
+pub mod LineLaws
+pub mod FoundLaws
 mod TableLaws
 mod Kept
-mod CallLaws
+pub mod CallLaws
 pub mod Condition1
 pub mod Condition2
 pub mod Condition3

@@ -21,6 +21,7 @@ use Rattle.forms.specs.declared.findings.Status.{Status}
 use Rattle.forms.specs.declared.findings.Status.the-variants.{New, Cancellation, Neither}
 use Rattle.forms.specs.declared.tables.Form.{Form}
 use Rattle.forms.specs.declared.tables.Form.the-variants.{Reference, Lei}
+use Rattle.ident.specs.Codes.{leiShaped}
 use Rattle.register.proofs.PairLaws.{Shaped}
 use Rattle.facts.specs.Call.{Call}
 use Rattle.facts.specs.Rules.{isNew, isCxl, good, goodCells, flags, allFlags}
@@ -37,6 +38,9 @@ shape-length [] [] e = refl
 shape-length [] (b ∷ s) e = absurd (true≢false (sym e))
 shape-length (l ∷ pattern) [] e = absurd (true≢false (sym e))
 shape-length (l ∷ pattern) (b ∷ s) e = ap suc (shape-length pattern s (and-right (suits l b) (shape pattern s) e))
+
+pub lei-length : (s : List ℕ) → leiShaped s ≡ true → length s ≡ 20
+lei-length s e = shape-length (ascii "nnnnnnnnnnnnnnnnnndd") s e
 
 -- the line is NEW or CXL
 abbrev pub Known : Status → Type 0
@@ -61,11 +65,9 @@ form-holds status first form s known e = ⊎-elim (λ k. as-new (rw k at e)) (λ
     as-cxl f = not-false (holds form s) (or-right (blank s) (not (holds form s)) f)
 
 module _ (line : List ℕ) (known : Known (statusOf (cell line 1))) where
-  entity-length : formFinding (statusOf (cell line 1)) (cell line 47) 4 (cell line 4) ≡ false → length (cell line 4) ≡ 20
+  pub entity-shaped : formFinding (statusOf (cell line 1)) (cell line 47) 4 (cell line 4) ≡ false → leiShaped (cell line 4) ≡ true
   unfolding formFinding formOf holds
-  entity-length e =
-      let h : holds Lei (cell line 4) ≡ true = form-holds (statusOf (cell line 1)) false Lei (cell line 4) known e in
-      shape-length (ascii "nnnnnnnnnnnnnnnnnndd") (cell line 4) h
+  entity-shaped e = form-holds (statusOf (cell line 1)) false Lei (cell line 4) known e
 
   reference-length : formFinding (statusOf (cell line 1)) (cell line 47) 2 (cell line 2) ≡ false → (1 ≤ length (cell line 2)) × (length (cell line 2) ≤ 52)
   unfolding formFinding formOf holds
@@ -80,7 +82,7 @@ module _ (line : List ℕ) (known : Known (statusOf (cell line 1))) where
       → Shaped (cell line 4) (cell line 2)
   pair-shaped e f =
       let (least, most) = reference-length f in
-      record { entity-length = entity-length e; some = least; most = most }
+      record { entity-length = lei-length (cell line 4) (entity-shaped e); some = least; most = most }
 
 -- cells 4 and 2 of a NEW or CXL line are good exactly if they have no finding
 pub good-4 : (line : List ℕ) → good line 4 ≡ not (formFinding (statusOf (cell line 1)) (cell line 47) 4 (cell line 4))
@@ -93,6 +95,13 @@ good-2 line = refl
 
 pub good-shaped : (line : List ℕ) → Known (statusOf (cell line 1)) → good line 4 ≡ true → good line 2 ≡ true → Shaped (cell line 4) (cell line 2)
 good-shaped line known e f = pair-shaped line known (not-true _ (sym (good-4 line) ∙ e)) (not-true _ (sym (good-2 line) ∙ f))
+
+-- a line without 1001 is NEW or CXL
+pub status-found : (status : Status) (underlying s : List ℕ) → formFinding status underlying 1 s ≡ false → Known status
+unfolding formFinding
+status-found New underlying s e = inl refl
+status-found Cancellation underlying s e = inr refl
+status-found Neither underlying s e = absurd (true≢false e)
 
 -- a clean line has no flag set
 nothing : (l : List ℕ) → length l ≡ 0 → l ≡ []
@@ -113,12 +122,6 @@ module _ (c : Call) (clear : clean c ≡ true) where
   no-flag i h =
       bit-none (getD (allFlags c) i false)
       (sym (pick-once 0 codes (allFlags c) i codes-rise (omega (arith, code-count))) ∙ ap (times (getD codes i 0)) none-found)
-
-  status-found : (status : Status) (underlying s : List ℕ) → formFinding status underlying 1 s ≡ false → Known status
-  unfolding formFinding
-  status-found New underlying s e = inl refl
-  status-found Cancellation underlying s e = inr refl
-  status-found Neither underlying s e = absurd (true≢false e)
 
   -- it is NEW or CXL, and its pair has the right shape
   pub clean-known : Known (statusOf (cell (c .line) 1))

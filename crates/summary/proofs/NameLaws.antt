@@ -58,7 +58,7 @@ flag-is-bit (w ∷ words) j h =
     let r : j % 64 ≡ (j - 64) % 64 = omega arith in
     rw (q, r) (right-of 64 w (flagsIn words) j k ∙ flag-is-bit words (j - 64) (omega arith)))
 
-bit-once : (b : Bool) → eqb (bit b) 1 ≡ b
+pub bit-once : (b : Bool) → eqb (bit b) 1 ≡ b
 bit-once true = refl
 bit-once false = refl
 

@@ -1,0 +1,3 @@
+-- The day's summary by firm, over any sequence of lines.
+pub mod Counts
+pub mod Summary
