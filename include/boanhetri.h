@@ -1,5 +1,6 @@
 /*
- * Boanhetri: one transaction report line of MiFIR Article 26, judged; and a register of version 1, converted to version 2.
+ * Boanhetri: one transaction report line of MiFIR Article 26, judged; a judged line, noted in the day's summary by firm; and a
+ * register of version 1, converted to version 2.
  *
  * Link with libcapi.a, for x86-64 Linux. Of the C library it uses memcpy and memset alone.
  *
@@ -9,6 +10,7 @@
 #ifndef BOANHETRI_H
 #define BOANHETRI_H
 
+#include <stdbool.h>
 #include <stddef.h>
 #include <stdint.h>
 
@@ -113,6 +115,62 @@ struct boanhetri_verdict boanhetri_judge(
     uint64_t micro,
     uint32_t polish,
     uint16_t *findings, size_t findings_len);
+
+/* No record behind this many is used. */
+#define BOANHETRI_RECORDS 256
+
+/* What is counted of an executing entity's lines, or in the common record. A line counts under one of the five headings, and
+   beside that under each code that it has. A counter at 4294967295 stays there. */
+struct boanhetri_record {
+    /* Cell 4 of its lines. A record is free while the first byte is 0; its other bytes may then hold anything. */
+    uint8_t entity[20];
+    /* Lines accepted as NEW, and as CXL. */
+    uint32_t accepted;
+    uint32_t cancelled;
+    /* Lines judged with findings. */
+    uint32_t found;
+    /* Lines refused by 11, the register being full. */
+    uint32_t full;
+    /* Lines refused by 1 to 10: in the common record alone. */
+    uint32_t refused;
+    /* Lines with each code, in the order of the bits of a verdict. */
+    uint32_t codes[BOANHETRI_CODES];
+};
+
+struct boanhetri_noted {
+    /* The common record took the line. */
+    bool common;
+    /* A counter that the line should have raised was at its top, and stayed. The others rose. */
+    bool stuck;
+};
+
+/*
+ * Notes one line in the day's summary, with the verdict that it got.
+ *
+ *   records   the table: a record for each executing entity, by first appearance
+ *   count     how many records there are; those from BOANHETRI_RECORDS on are not looked at
+ *   common    the common record
+ *   line      the line as it was judged
+ *   verdict   what `boanhetri_judge` answered
+ *
+ * The line counts in the record of its entity, cell 4; a new entity takes the first free record, and its counters begin at 0.
+ * The common record takes a line that was refused by 1 to 10, one with 1001 or 1004 found, whose entity is not known, and one of a
+ * new entity where no record is free. No other byte changes; of the common record the entity stays as it is.
+ *
+ * To begin a day, set the common record and the first byte of each record to 0. From then on, if only this function writes them,
+ * and for fewer than 4294967295 lines, each number is the count of such lines, and the five counts of all records that are taken
+ * and of the common record add up to the lines noted.
+ *
+ * What the caller owes: `records` is good for `count` records and `common` for one, to read and to write, aligned for uint32_t;
+ * `line` for its length, to read; neither `records` nor `common` overlaps the other or `line`; nothing else writes to any of it
+ * or reads the records until the call returns. A count or a length of 0 is allowed, as above. The bytes are free: whatever
+ * records, line and verdict hold, the call returns, and within these lengths. Nothing is kept between calls.
+ */
+struct boanhetri_noted boanhetri_note(
+    struct boanhetri_record *records, size_t count,
+    struct boanhetri_record *common,
+    const uint8_t *line, size_t line_len,
+    struct boanhetri_verdict verdict);
 
 /*
  * Writes a register of version 1 into another buffer as version 2.

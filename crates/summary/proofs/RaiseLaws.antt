@@ -1,6 +1,6 @@
 -- Counters raised by flags: the lowest bit of a word first, and the three words one after another.
 use mathlib.Core.Path.{_≡_, refl, sym, ap, _∙_}
-use mathlib.Core.Bool.{Bool, true, false, _||_, true≢false}
+use mathlib.Core.Bool.{Bool, true, false, _||_, or-assoc, or-comm, true≢false}
 use mathlib.Core.List.{List, [], _∷_, _++_, append-nil, append-assoc}
 use Prim.Native.Nat.{ℕ, zero, suc, _+_, _-_, _*_, _/_, _%_, _^_, _≤_, _<_}
 use native.Mathlib.Nat.{zero-add, pow-suc}
@@ -31,19 +31,6 @@ none-stuck (flag ∷ flags) [] clear = refl
 none-stuck (flag ∷ flags) (n ∷ counters) clear =
     ap (λ (b : Bool). stuck b n || anyStuck flags counters) (clear 0 (omega arith)) ∙ none-stuck flags counters (λ j h. clear (suc j) (omega arith))
 
-or-swap : (a b c : Bool) → (a || (b || c)) ≡ (b || (a || c))
-or-swap true true c = refl
-or-swap true false c = refl
-or-swap false b c = refl
-
-or-none : (a : Bool) → (a || false) ≡ a
-or-none true = refl
-or-none false = refl
-
-or-assoc : (a b c : Bool) → ((a || b) || c) ≡ (a || (b || c))
-or-assoc true b c = refl
-or-assoc false b c = refl
-
 -- a counter whose flag is set is raised first, and the flag is set no more
 one-raised : (flags : List Bool) (counters : List ℕ) (t : ℕ) → getD flags t false ≡ true → t < length counters
     → raised (set flags t false) (set counters t (up true (getD counters t 0))) ≡ raised flags counters
@@ -60,7 +47,9 @@ one-stuck [] counters t x s h = absurd (true≢false (sym s))
 one-stuck (flag ∷ flags) [] t x s h = absurd (omega arith)
 one-stuck (flag ∷ flags) (n ∷ counters) zero x s h = ap (λ (b : Bool). stuck b n || anyStuck flags counters) (sym s)
 one-stuck (flag ∷ flags) (n ∷ counters) (suc t) x s h =
-    or-swap (stuck true (getD counters t 0)) (stuck flag n) (anyStuck (set flags t false) (set counters t x))
+    sym (or-assoc (stuck true (getD counters t 0)) (stuck flag n) (anyStuck (set flags t false) (set counters t x)))
+    ∙ ap (λ (b : Bool). b || anyStuck (set flags t false) (set counters t x)) (or-comm (stuck true (getD counters t 0)) (stuck flag n))
+    ∙ or-assoc (stuck flag n) (stuck true (getD counters t 0)) (anyStuck (set flags t false) (set counters t x))
     ∙ ap (λ (b : Bool). stuck flag n || b) (one-stuck flags counters t x s (omega arith))
 
 -- flags behind k that are not set
@@ -143,7 +132,7 @@ module _ {from word : ℕ} {before counters : List ℕ} {said : Bool} {left : �
   stopped : Clear (length counters) (behind from (bitsOf 64 left)) → Raising (behind from (bitsOf 64 word)) before said counters
   stopped clear =
       record {
-        told = sym (or-none said) ∙ ap (λ (b : Bool). said || b) (sym (none-stuck (behind from (bitsOf 64 left)) counters clear)) ∙ so-far .told;
+        told = sym (or-comm said false) ∙ ap (λ (b : Bool). said || b) (sym (none-stuck (behind from (bitsOf 64 left)) counters clear)) ∙ so-far .told;
         risen = sym (none-raised (behind from (bitsOf 64 left)) counters clear) ∙ so-far .rest;
       }
 
