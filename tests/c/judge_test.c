@@ -12,6 +12,8 @@ void *memset(void *to, int byte, size_t n);
 size_t strlen(const char *s);
 
 _Static_assert(sizeof(struct boanhetri_verdict) == 32, "a verdict is two 16-bit numbers and three 64-bit words");
+_Static_assert(sizeof(struct boanhetri_record) == 604, "a record is 20 bytes and 146 counters of 32 bits");
+_Static_assert(sizeof(struct boanhetri_noted) == 2, "what noting says is two bytes");
 
 /* Two LEIs with right check digits. */
 #define ENTITY "00000000000000000098"
@@ -640,6 +642,143 @@ static void nothing_is_kept(void) {
     printf("%s\n", group);
 }
 
+/* ---- the day's summary */
+
+/* A table with two records more than are used, and what it must hold. */
+struct table {
+    struct boanhetri_record records[BOANHETRI_RECORDS + 2];
+    struct boanhetri_record common;
+};
+
+static struct table table;
+static struct table wanted;
+
+/* Free records may hold anything behind their first byte. */
+static void empty_table(void) {
+    memset(&table, 0xA5, sizeof table);
+    memset(&table.common, 0, sizeof table.common);
+    for (size_t i = 0; i < BOANHETRI_RECORDS + 2; i++) {
+        table.records[i].entity[0] = 0;
+    }
+    wanted = table;
+}
+
+static void expect_entity(size_t row, const char *entity) {
+    memset(&wanted.records[row], 0, sizeof wanted.records[row]);
+    memcpy(wanted.records[row].entity, entity, 20);
+}
+
+/* Notes: what is said and the whole table, to the last byte, must be as wanted. */
+static void must_note(const struct bytes *line, struct boanhetri_verdict v, size_t count, bool common, bool stuck, const char *group) {
+    struct boanhetri_noted n = boanhetri_note(table.records, count, &table.common, line->at, line->len, v);
+    must(n.common == common, group, "where it went");
+    must(n.stuck == stuck, group, "a counter at its top");
+    must(memcmp(&table, &wanted, sizeof table) == 0, group, "records");
+}
+
+static void lines_are_noted(void) {
+    const char *group = "lines noted: each under its heading, with its codes, for its entity or in the common record";
+    struct call c = good_call();
+    empty_register(&c.reg, 2, 1);
+    empty_table();
+    expect_entity(0, ENTITY);
+    wanted.records[0].accepted = 1;
+    must_note(&c.line, judge(&c), 3, false, false, group);
+    new_line(&c, "R2");
+    wanted.records[0].full = 1;
+    must_note(&c.line, judge(&c), 3, false, false, group);
+    cxl_line(&c, "R1");
+    wanted.records[0].cancelled = 1;
+    must_note(&c.line, judge(&c), 3, false, false, group);
+    cxl_line(&c, "R3");
+    wanted.records[0].found = 1;
+    wanted.records[0].codes[1] = 1;
+    must_note(&c.line, judge(&c), 3, false, false, group);
+    /* another entity's, which takes the next record */
+    const char *cells[66];
+    good_cells(cells, "R4");
+    cells[4] = OTHER;
+    line_of(&c, cells);
+    expect_entity(1, OTHER);
+    wanted.records[1].full = 1;
+    must_note(&c.line, judge(&c), 3, false, false, group);
+    /* 1004, 1001, and a refusal: in the common record */
+    cells[4] = "x";
+    line_of(&c, cells);
+    wanted.common.found = 1;
+    wanted.common.codes[76] = 1;
+    must_note(&c.line, judge(&c), 3, true, false, group);
+    first_cell(&c, "x");
+    wanted.common.found = 2;
+    wanted.common.codes[73] = 1;
+    must_note(&c.line, judge(&c), 3, true, false, group);
+    new_line(&c, "R5");
+    c.room = BOANHETRI_BASE_CODES - 1;
+    wanted.common.refused = 1;
+    must_note(&c.line, judge(&c), 3, true, false, group);
+    printf("%s\n", group);
+}
+
+/* The name of the i-th entity, of 20 bytes. */
+static void name_entity(char name[21], size_t i) {
+    memset(name, '0', 20);
+    name[17] = (char)('0' + i / 100);
+    name[18] = (char)('0' + i / 10 % 10);
+    name[19] = (char)('0' + i % 10);
+    name[20] = 0;
+}
+
+static void records_run_out(void) {
+    const char *group = "256 records are used, and the others never";
+    const struct boanhetri_verdict v = {0, 2, {1, 0, (uint64_t)1 << 12}};
+    struct call c = good_call();
+    const char *cells[66] = {[1] = "NEW"};
+    char name[21];
+    empty_table();
+    for (size_t i = 0; i < BOANHETRI_RECORDS + 2; i++) {
+        name_entity(name, i);
+        cells[4] = name;
+        line_of(&c, cells);
+        bool common = i >= BOANHETRI_RECORDS;
+        if (!common) {
+            expect_entity(i, name);
+        }
+        struct boanhetri_record *record = common ? &wanted.common : &wanted.records[i];
+        record->found++;
+        record->codes[0]++;
+        record->codes[BOANHETRI_CODES - 1]++;
+        must_note(&c.line, v, BOANHETRI_RECORDS + 2, common, false, group);
+    }
+    /* room for none */
+    wanted.common.found++;
+    wanted.common.codes[0]++;
+    wanted.common.codes[BOANHETRI_CODES - 1]++;
+    must_note(&c.line, v, 0, true, false, group);
+    printf("%s\n", group);
+}
+
+static void counters_stay(void) {
+    const char *group = "a counter at its top stays, and the others rise";
+    const struct boanhetri_verdict v = {0, 1, {1, 0, 0}};
+    struct call c = good_call();
+    empty_table();
+    expect_entity(0, ENTITY);
+    wanted.records[0].found = 1;
+    wanted.records[0].codes[0] = 1;
+    must_note(&c.line, v, 1, false, false, group);
+    table.records[0].found = wanted.records[0].found = UINT32_MAX - 1;
+    wanted.records[0].found++;
+    wanted.records[0].codes[0]++;
+    must_note(&c.line, v, 1, false, false, group);
+    wanted.records[0].codes[0]++;
+    must_note(&c.line, v, 1, false, true, group);
+    table.records[0].found = wanted.records[0].found = 7;
+    table.records[0].codes[0] = wanted.records[0].codes[0] = UINT32_MAX;
+    wanted.records[0].found++;
+    must_note(&c.line, v, 1, false, true, group);
+    printf("%s\n", group);
+}
+
 int main(void) {
     for (uint8_t version = 1; version <= 2; version++) {
         a_pair_lives(version);
@@ -656,6 +795,9 @@ int main(void) {
     cells_are_65();
     refusals_have_an_order();
     nothing_is_kept();
+    lines_are_noted();
+    records_run_out();
+    counters_stay();
     if (failures) {
         printf("%d failed\n", failures);
         return 1;
