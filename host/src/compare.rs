@@ -8,7 +8,7 @@ use crate::file::{Answered, Case, Reader, MARKS};
 use crate::reference::{Outcome, Version};
 
 /// How many differences are printed in full.
-const SHOWN: usize = 10;
+pub(crate) const SHOWN: usize = 10;
 
 /// Compares, prints the first differences and a summary, and says whether there was none.
 pub fn run(cases: impl BufRead, mut results: impl BufRead, mut output: impl Write) -> io::Result<bool> {
@@ -56,7 +56,7 @@ pub fn answer(cases: impl BufRead, mut results: impl Write) -> io::Result<()> {
 }
 
 /// A line as text, with `\x..` for what cannot be printed.
-fn shown(line: &[u8]) -> String {
+pub(crate) fn shown(line: &[u8]) -> String {
     let mut text = String::new();
     for chunk in line.utf8_chunks() {
         for character in chunk.valid().chars() {
@@ -103,7 +103,7 @@ fn call(case: &Case) -> String {
     text
 }
 
-fn outcome(name: &str, Outcome { answer, count, words: [first, second, third] }: Outcome) -> String {
+pub(crate) fn outcome(name: &str, Outcome { answer, count, words: [first, second, third] }: Outcome) -> String {
     let meaning = answer_words(answer);
     format!("  {name}: answer {answer} ({meaning}), count {count}, words {first:016x} {second:016x} {third:016x}\n")
 }
@@ -132,7 +132,7 @@ fn codes(expected: &Answered, ours: &Answered) -> String {
 }
 
 /// The codes whose bits are set.
-fn codes_of(words: [u64; 3]) -> Vec<u16> {
+pub(crate) fn codes_of(words: [u64; 3]) -> Vec<u16> {
     CODES.iter().enumerate().filter(|(place, _)| words[place / 64] >> (place % 64) & 1 == 1).map(|row| *row.1).collect()
 }
 
@@ -152,7 +152,7 @@ fn buffers(case: &Case, expected: &Answered, ours: &Answered) -> String {
 }
 
 /// Where a byte of a register stands, by the rows of its version.
-fn place_in(register: &[u8], at: usize) -> String {
+pub(crate) fn place_in(register: &[u8], at: usize) -> String {
     let version = register.get(3..5).and_then(|number| Version::of(u16::from_le_bytes([number[0], number[1]])));
     match (at.checked_sub(9), version) {
         (None, _) => "in its head".to_string(),

@@ -80,11 +80,7 @@ impl Answered {
 
     /// Writes what came of a call: the rest of a case in the file, and one result of the proved side.
     pub fn write(&self, to: &mut impl Write) -> io::Result<()> {
-        to.write_all(&self.outcome.answer.to_le_bytes())?;
-        to.write_all(&self.outcome.count.to_le_bytes())?;
-        for word in self.outcome.words {
-            to.write_all(&word.to_le_bytes())?;
-        }
+        write_outcome(to, &self.outcome)?;
         write_entries(to, &self.findings)?;
         to.write_all(&self.register)
     }
@@ -92,58 +88,68 @@ impl Answered {
     /// Reads what came of a call with so many findings entries and so many register bytes.
     pub fn read(from: &mut impl Read, entries: usize, register: usize) -> io::Result<Answered> {
         Ok(Answered {
-            outcome: Outcome {
-                answer: read_u16(from)?,
-                count: read_u16(from)?,
-                words: [read_u64(from)?, read_u64(from)?, read_u64(from)?],
-            },
+            outcome: read_outcome(from)?,
             findings: read_entries(from, entries)?,
             register: read_exact(from, register)?,
         })
     }
 }
 
-fn write_u32(to: &mut impl Write, number: usize) -> io::Result<()> {
+pub(crate) fn write_outcome(to: &mut impl Write, outcome: &Outcome) -> io::Result<()> {
+    to.write_all(&outcome.answer.to_le_bytes())?;
+    to.write_all(&outcome.count.to_le_bytes())?;
+    outcome.words.iter().try_for_each(|word| to.write_all(&word.to_le_bytes()))
+}
+
+pub(crate) fn read_outcome(from: &mut impl Read) -> io::Result<Outcome> {
+    Ok(Outcome {
+        answer: read_u16(from)?,
+        count: read_u16(from)?,
+        words: [read_u64(from)?, read_u64(from)?, read_u64(from)?],
+    })
+}
+
+pub(crate) fn write_u32(to: &mut impl Write, number: usize) -> io::Result<()> {
     let number = u32::try_from(number).map_err(io::Error::other)?;
     to.write_all(&number.to_le_bytes())
 }
 
-fn write_bytes(to: &mut impl Write, bytes: &[u8], longest: usize) -> io::Result<()> {
+pub(crate) fn write_bytes(to: &mut impl Write, bytes: &[u8], longest: usize) -> io::Result<()> {
     assert!(bytes.len() <= longest, "{} bytes where at most {longest} are allowed", bytes.len());
     write_u32(to, bytes.len())?;
     to.write_all(bytes)
 }
 
-fn write_entries(to: &mut impl Write, entries: &[u16]) -> io::Result<()> {
+pub(crate) fn write_entries(to: &mut impl Write, entries: &[u16]) -> io::Result<()> {
     let bytes: Vec<u8> = entries.iter().flat_map(|entry| entry.to_le_bytes()).collect();
     to.write_all(&bytes)
 }
 
-fn read_array<const LENGTH: usize>(from: &mut impl Read) -> io::Result<[u8; LENGTH]> {
+pub(crate) fn read_array<const LENGTH: usize>(from: &mut impl Read) -> io::Result<[u8; LENGTH]> {
     let mut bytes = [0; LENGTH];
     from.read_exact(&mut bytes)?;
     Ok(bytes)
 }
 
-fn read_u16(from: &mut impl Read) -> io::Result<u16> {
+pub(crate) fn read_u16(from: &mut impl Read) -> io::Result<u16> {
     read_array(from).map(u16::from_le_bytes)
 }
 
-fn read_u32(from: &mut impl Read) -> io::Result<u32> {
+pub(crate) fn read_u32(from: &mut impl Read) -> io::Result<u32> {
     read_array(from).map(u32::from_le_bytes)
 }
 
-fn read_u64(from: &mut impl Read) -> io::Result<u64> {
+pub(crate) fn read_u64(from: &mut impl Read) -> io::Result<u64> {
     read_array(from).map(u64::from_le_bytes)
 }
 
-fn read_exact(from: &mut impl Read, length: usize) -> io::Result<Vec<u8>> {
+pub(crate) fn read_exact(from: &mut impl Read, length: usize) -> io::Result<Vec<u8>> {
     let mut bytes = vec![0; length];
     from.read_exact(&mut bytes)?;
     Ok(bytes)
 }
 
-fn invalid(message: String) -> io::Error {
+pub(crate) fn invalid(message: String) -> io::Error {
     io::Error::new(io::ErrorKind::InvalidData, message)
 }
 
@@ -155,7 +161,7 @@ fn cut_short(error: io::Error) -> io::Error {
     }
 }
 
-fn read_length(from: &mut impl Read, longest: usize) -> io::Result<usize> {
+pub(crate) fn read_length(from: &mut impl Read, longest: usize) -> io::Result<usize> {
     let length = read_u32(from)? as usize;
     if length > longest {
         return Err(invalid(format!("a length of {length} where at most {longest} is allowed")));
@@ -163,12 +169,12 @@ fn read_length(from: &mut impl Read, longest: usize) -> io::Result<usize> {
     Ok(length)
 }
 
-fn read_bytes(from: &mut impl Read, longest: usize) -> io::Result<Vec<u8>> {
+pub(crate) fn read_bytes(from: &mut impl Read, longest: usize) -> io::Result<Vec<u8>> {
     let length = read_length(from, longest)?;
     read_exact(from, length)
 }
 
-fn read_entries(from: &mut impl Read, entries: usize) -> io::Result<Vec<u16>> {
+pub(crate) fn read_entries(from: &mut impl Read, entries: usize) -> io::Result<Vec<u16>> {
     let bytes = read_exact(from, entries * 2)?;
     Ok(bytes.chunks_exact(2).map(|pair| u16::from_le_bytes([pair[0], pair[1]])).collect())
 }

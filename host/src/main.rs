@@ -6,17 +6,20 @@ use std::fs::File;
 use std::io::{self, BufReader, BufWriter, Write};
 use std::process::ExitCode;
 
-use host::{amounts, compare, conversions, coverage, program, recipe, report};
+use host::{amounts, compare, conversions, coverage, days, program, recipe, report};
 
 const USAGE: &str = "usage:
   host cases SEED N FILE        make N calls with the results expected of them
   host answer FILE RESULTS      write the reference's own results, as the proved side would
   host compare FILE RESULTS     hold the results of the proved side against them
   host coverage FILE [TIMES]    count what the cases reach; each code alone at least TIMES (5)
+  host days SEED N FILE         make N days of lines, judged and noted, with the results expected of them
+  host answer-days FILE RESULTS, host compare-days FILE RESULTS, host coverage-days FILE
+                                the same for days
   host amounts SEED N           N texts for cells 30, 33 and 38, with what is to be read in them
   host conversions SEED N       N registers to be converted, with what comes of it
-  host program                  the paper's program: standard input to standard output
-  host report SEED N            an input for it of N lines, of every kind
+  host program [--summary]      the paper's program: standard input to standard output
+  host report SEED N [FIRMS]    an input for it of N lines, of every kind; of so many executing entities
   host drip SEED                standard input to standard output, in short pieces with pauses between
 The files are described in docs/CASES.md.";
 
@@ -30,6 +33,10 @@ fn create(path: &str) -> Result<BufWriter<File>, String> {
 
 fn seed_in(word: &str) -> Result<u64, String> {
     word.parse().map_err(|_| format!("{word}: not a seed"))
+}
+
+fn lines_in(word: &str) -> Result<usize, String> {
+    word.parse().map_err(|_| format!("{word}: not a number of lines"))
 }
 
 fn run(arguments: &[&str]) -> Result<bool, Box<dyn Error>> {
@@ -50,6 +57,20 @@ fn run(arguments: &[&str]) -> Result<bool, Box<dyn Error>> {
             let times = times.parse().map_err(|_| format!("{times}: not a number"))?;
             Ok(coverage::run(open(cases)?, times, output)?)
         }
+        ["days", seed, count, path] => {
+            let count = count.parse().map_err(|_| format!("{count}: not a number of days"))?;
+            days::run(seed_in(seed)?, count, create(path)?, output)?;
+            Ok(true)
+        }
+        ["answer-days", days, results] => {
+            days::answer(open(days)?, create(results)?)?;
+            Ok(true)
+        }
+        ["compare-days", days, results] => Ok(days::compare(open(days)?, open(results)?, output)?),
+        ["coverage-days", days] => {
+            days::coverage(open(days)?, output)?;
+            Ok(true)
+        }
         ["amounts", seed, count] => {
             let count = count.parse().map_err(|_| format!("{count}: not a number of texts"))?;
             output.write_all(&amounts::cases(seed_in(seed)?, count))?;
@@ -63,12 +84,21 @@ fn run(arguments: &[&str]) -> Result<bool, Box<dyn Error>> {
             Ok(true)
         }
         ["program"] => {
-            program::run(io::stdin().lock(), output)?;
+            program::run(io::stdin().lock(), output, false)?;
+            Ok(true)
+        }
+        ["program", "--summary"] => {
+            program::run(io::stdin().lock(), output, true)?;
             Ok(true)
         }
         ["report", seed, count] => {
-            let count = count.parse().map_err(|_| format!("{count}: not a number of lines"))?;
-            output.write_all(&report::report(seed_in(seed)?, count))?;
+            output.write_all(&report::report(seed_in(seed)?, lines_in(count)?, None))?;
+            output.flush()?;
+            Ok(true)
+        }
+        ["report", seed, count, firms] => {
+            let firms = firms.parse().map_err(|_| format!("{firms}: not a number of firms"))?;
+            output.write_all(&report::report(seed_in(seed)?, lines_in(count)?, Some(firms)))?;
             output.flush()?;
             Ok(true)
         }

@@ -8,6 +8,7 @@
 mod bench;
 mod calls;
 mod classes;
+mod days;
 mod draft;
 mod kinds;
 mod polish;
@@ -24,7 +25,9 @@ use std::io::{self, Write};
 use crate::codes::{words, CODES, COUNT};
 use crate::file::{Answered, Case, Writer, LONGEST_LINE};
 
+pub(crate) use bench::spread;
 pub use bench::{bench_day, sized_bench_day, BenchDay};
+pub use days::DayRecipe;
 
 use draft::{Draft, Maker, Want};
 use kinds::KINDS;

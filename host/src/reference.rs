@@ -1,7 +1,8 @@
 //! The reference: what the paper says of one call.
 //!
 //! `judge` takes a whole call, as it comes over the boundary. A service that judges many lines reads its lists
-//! and register once (`Lists::read`, `Register::open`) and calls `judge_line`.
+//! and register once (`Lists::read`, `Register::open`) and calls `judge_line`. `note` counts what came of a line in the
+//! day's summary.
 
 mod calendar;
 mod cfi;
@@ -11,6 +12,7 @@ mod polish;
 mod register;
 mod report;
 mod rules;
+mod summary;
 mod underlying;
 mod verdict;
 
@@ -18,6 +20,7 @@ pub use calendar::{Day, Moment, MICROS};
 pub use forms::{price, quantity, signed_amount, Decimal, Price, Quantity};
 pub use lists::{Lists, VenueKinds};
 pub use register::{frame as register_frame, Pair, Register, Standing, Version};
+pub use summary::{note, Heading, Noted, Record, MOST_RECORDS, RECORD_BYTES};
 
 use report::{Cancellation, Report};
 use verdict::Verdict;

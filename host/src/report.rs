@@ -5,8 +5,8 @@ use std::io::{self, Read, Write};
 use std::thread::sleep;
 use std::time::Duration;
 
-use crate::recipe::bench_day;
 use crate::recipe::rng::{Rng, ALPHANUMERIC};
+use crate::recipe::{bench_day, spread};
 
 /// How many bytes the proved program asks of a read.
 const BUFFER: usize = 65_536;
@@ -14,11 +14,15 @@ const BUFFER: usize = 65_536;
 /// How near the end of a buffer a line is made to end at it: further than any but the longest lines reach.
 const NEAR: usize = 5_000;
 
-/// A report of so many lines. Wherever a buffer is nearly full, a line ends one byte before its end, at its end or one
-/// byte behind it, in turn. The same seed and count make the same report everywhere.
-pub fn report(seed: u64, count: usize) -> Vec<u8> {
+/// A report of so many lines, and where it is said, of so many executing entities. Wherever a buffer is nearly full, a
+/// line ends one byte before its end, at its end or one byte behind it, in turn. The same numbers make the same report
+/// everywhere.
+pub fn report(seed: u64, count: usize, firms: Option<usize>) -> Vec<u8> {
     let mut rng = Rng::new(seed);
-    let day = bench_day(seed, count);
+    let mut day = bench_day(seed, count);
+    if let Some(firms) = firms {
+        spread(&mut Rng::new(seed), firms, &mut day.lines);
+    }
     let mut report = Vec::new();
     for (number, trade) in day.lines.into_iter().enumerate() {
         let left = BUFFER - report.len() % BUFFER;
@@ -77,7 +81,7 @@ mod tests {
 
     #[test]
     fn reports_have_every_kind_of_line() {
-        let report = report(1, 6_000);
+        let report = report(1, 6_000, None);
         let lines: Vec<&[u8]> = report.split_inclusive(|&byte| byte == b'\n').collect();
         assert_eq!(lines.len(), 6_000);
         assert!(lines.iter().any(|line| line.len() > BUFFER));
@@ -97,8 +101,22 @@ mod tests {
                 assert!(edges.filter(|&edge| ends_so(edge)).count() > 3, "{behind}");
             }
         }
-        assert_eq!(report, super::report(1, 6_000));
-        assert_ne!(report, super::report(2, 6_000));
+        assert_eq!(report, super::report(1, 6_000, None));
+        assert_ne!(report, super::report(2, 6_000, None));
+    }
+
+    #[test]
+    fn reports_of_many_entities() {
+        for (firms, records) in [(1, 1), (255, 255), (256, 256), (300, 256)] {
+            let mut output = Vec::new();
+            crate::program::run(&report(1, 6_000, Some(firms))[..], &mut output, true).unwrap();
+            let text = String::from_utf8_lossy(&output);
+            let mut summary = text.lines().skip_while(|line| *line != "summary").skip(1);
+            assert_eq!(summary.clone().count(), records + 1);
+            // Some come back.
+            let numbers = |line: &str| line.split(' ').skip(1).take(5).map(|n| n.parse::<u32>().unwrap()).sum::<u32>();
+            assert!(summary.any(|line| numbers(line) > 9));
+        }
     }
 
     /// Notes the lengths of the pieces that it gets.
@@ -117,7 +135,7 @@ mod tests {
 
     #[test]
     fn all_drips_through() {
-        let input = report(3, 100);
+        let input = report(3, 100, None);
         let mut pieces = Pieces(Vec::new(), Vec::new());
         drip(1, &input[..], &mut pieces).unwrap();
         assert!(pieces.0 == input);

@@ -1,8 +1,9 @@
 //! Calls to throw at the proved functions: good ones of the recipe, good ones changed here and there, and noise.
 
+use host::codes::{place, COUNT};
 use host::file::Case;
 use host::recipe::Recipe;
-use host::reference::{register_frame, Version};
+use host::reference::{register_frame, Outcome, Record, Version};
 
 /// A small generator of pseudo-random numbers (SplitMix64).
 struct Rng(u64);
@@ -59,10 +60,20 @@ pub struct Conversion {
     pub to: Vec<u8>,
 }
 
+/// A line to be noted, with a verdict, in a table.
+#[derive(Clone, Debug, PartialEq, Eq)]
+pub struct Noting {
+    pub records: Vec<Record>,
+    pub common: Record,
+    pub line: Vec<u8>,
+    pub outcome: Outcome,
+}
+
 /// What is thrown.
 pub enum Thrown {
     Judged(Case),
     Converted(Conversion),
+    Noted(Box<Noting>),
 }
 
 /// Makes one call after another.
@@ -80,10 +91,11 @@ impl Calls {
         Calls { rng: Rng::new(seed), recipe, before }
     }
 
-    /// One call in eight is a conversion.
+    /// One call in eight is a conversion, and one notes a line.
     pub fn next_call(&mut self) -> Thrown {
         match self.rng.below(8) {
             0 => Thrown::Converted(self.next_conversion()),
+            1 => Thrown::Noted(Box::new(self.next_noting())),
             _ => Thrown::Judged(self.next_case()),
         }
     }
@@ -131,6 +143,31 @@ impl Calls {
         let mut to = if rng.below(2) == 0 { self.before.register.clone() } else { Vec::new() };
         to.resize_with(length, || rng.next() as u8);
         Conversion { from, to }
+    }
+
+    /// A line of the recipe, every fourth time as it would be judged here, with the verdict that the reference gives it or
+    /// any other, in a table of any records: every second one has a record of the line's entity.
+    fn next_noting(&mut self) -> Noting {
+        let before = entity(&self.before.line);
+        let mut case = if self.rng.below(4) == 0 { self.next_case() } else { self.recipe.next_case().0 };
+        let own = case.judge().outcome;
+        let rng = &mut self.rng;
+        if rng.below(4) == 0 {
+            change_front(rng, &mut case.line);
+        }
+        let entities = [entity(&case.line), before].map(|entity| entity.unwrap_or([0; 20]));
+        let any = rng.below(301);
+        let room = rng.of(&[0, 1, 2, 3, 255, 256, 257, 300, any, any % 20]);
+        // Tables without a free record, with a few or with many.
+        let free = rng.of(&[0, 0, 1, 8, 64]);
+        let mut records: Vec<Record> = (0..room).map(|_| any_record(rng, &entities, free)).collect();
+        if room > 0 && rng.below(2) == 0 {
+            let place = if rng.below(4) == 0 { room - 1 } else { rng.below(room) };
+            records[place].entity = entities[0];
+        }
+        let common = any_record(rng, &entities, 8);
+        let outcome = if rng.below(2) == 0 { own } else { any_outcome(rng, own) };
+        Noting { records, common, line: case.line, outcome }
     }
 
     /// Changes one thing about a call, mostly its line.
@@ -258,4 +295,59 @@ fn framed_register(rng: &mut Rng) -> Vec<u8> {
     let mut register = framed(rng, version.head(rows as u32), rows * version.width());
     register.extend(rng.noise(200));
     register
+}
+
+/// Changes cell 1 or 4 by a byte or what they end with, or ends the line right behind cell 4 or before it.
+fn change_front(rng: &mut Rng, line: &mut Vec<u8>) {
+    let bars: Vec<usize> = (0..line.len()).filter(|&at| line[at] == b'|').collect();
+    let [first, _, third, fourth, ..] = bars[..] else { return };
+    match rng.below(6) {
+        0 => line.insert(rng.of(&[0, first]), rng.of(b" S\0")),
+        1 => line.insert(rng.of(&[third + 1, fourth]), rng.of(b" 0\0")),
+        2 => line[third + 1] = 0,
+        3 => drop(line.drain(third + 1..fourth.min(third + 2))),
+        4 => line.truncate(fourth),
+        _ => line.truncate(rng.of(&[0, first, third, third + 1])),
+    }
+}
+
+/// Cell 4 of a line, where it is as long as an entity.
+fn entity(line: &[u8]) -> Option<[u8; 20]> {
+    line.split(|&byte| byte == b'|').nth(3)?.try_into().ok()
+}
+
+/// A record with any numbers in it, many of them near the top: of an entity that differs from one of these in a bit, or of
+/// any; or free, as often of 64 times as is said.
+fn any_record(rng: &mut Rng, entities: &[[u8; 20]], free: usize) -> Record {
+    let noise: [u8; 20] = std::array::from_fn(|_| rng.next() as u8);
+    let mut near = rng.of(entities);
+    near[rng.below(20)] ^= 1 << rng.below(8);
+    let mut record = Record::new(rng.of(&[near, noise, noise]));
+    match rng.below(64) < free {
+        true => record.entity[0] = 0,
+        false => record.entity[0] |= u8::from(record.entity[0] == 0),
+    }
+    let Record { entity: _, accepted, cancelled, found, full, refused, codes } = &mut record;
+    let clean = rng.below(4) == 0;
+    for counter in [accepted, cancelled, found, full, refused].into_iter().chain(codes) {
+        let any = rng.next() as u32;
+        *counter = if clean { 0 } else { rng.of(&[any, u32::MAX, u32::MAX, u32::MAX - 1, 0]) };
+    }
+    record
+}
+
+/// Another verdict: with any answer, any count or any words; the bits of 1001 and 1004 are often not among them.
+fn any_outcome(rng: &mut Rng, mut outcome: Outcome) -> Outcome {
+    let (answer, count) = (rng.next() as u16, rng.next() as u16);
+    outcome.answer = rng.of(&[outcome.answer, 0, 0, 0, 11, 11, 1 + answer % 12, answer]);
+    outcome.count = rng.of(&[outcome.count, 0, 0, 1, count]);
+    let many: [u64; 3] = std::array::from_fn(|_| rng.next());
+    let few = many.map(|word| word & rng.next() & rng.next());
+    outcome.words = rng.of(&[outcome.words, [0; 3], [u64::MAX; 3], many, few, [0, 0, many[2] << (COUNT - 128)]]);
+    if rng.below(4) > 0 {
+        for code in [1001, 1004] {
+            outcome.words[place(code) / 64] &= !(1 << (place(code) % 64));
+        }
+    }
+    outcome
 }

@@ -3,6 +3,8 @@
 use std::ffi::c_void;
 use std::ptr;
 
+use host::reference::Record;
+
 const PAGE: usize = 4096;
 
 /// As <sys/mman.h> of Linux has them.
@@ -70,5 +72,14 @@ impl Guarded {
         let bytes: Vec<u8> = entries.iter().flat_map(|entry| entry.to_ne_bytes()).collect();
         let place = self.lend(&bytes, against);
         unsafe { std::slice::from_raw_parts_mut(place.as_mut_ptr().cast(), entries.len()) }
+    }
+
+    /// Records against a guard, to read and write. They have no bytes between their fields, and pages are aligned for them
+    /// at both ends.
+    pub fn lend_records(&mut self, records: &[Record], against: Against) -> &mut [Record] {
+        let bytes =
+            unsafe { std::slice::from_raw_parts(records.as_ptr().cast::<u8>(), std::mem::size_of_val(records)) };
+        let place = self.lend(bytes, against);
+        unsafe { std::slice::from_raw_parts_mut(place.as_mut_ptr().cast(), records.len()) }
     }
 }

@@ -3,7 +3,7 @@
 pub mod changes;
 pub mod guarded;
 
-use host::reference::{Call, Outcome};
+use host::reference::{Call, Noted, Outcome, Record};
 
 /// `struct boanhetri_verdict`.
 #[repr(C)]
@@ -37,6 +37,15 @@ extern "C" {
     ) -> Verdict;
 
     fn boanhetri_convert(from: *const u8, from_len: usize, to: *mut u8, to_len: usize) -> u16;
+
+    fn boanhetri_note(
+        records: *mut Record,
+        count: usize,
+        common: *mut Record,
+        line: *const u8,
+        line_len: usize,
+        verdict: Verdict,
+    ) -> Noted;
 }
 
 /// Judges one call by the proved function.
@@ -73,4 +82,20 @@ pub fn judge(call: Call) -> Outcome {
 pub fn convert(from: &[u8], to: &mut [u8]) -> u16 {
     // As above: the target is written and overlaps nothing.
     unsafe { boanhetri_convert(from.as_ptr(), from.len(), to.as_mut_ptr(), to.len()) }
+}
+
+/// Notes a line with its verdict by the proved function.
+pub fn note(records: &mut [Record], common: &mut Record, line: &[u8], outcome: &Outcome) -> Noted {
+    let Outcome { answer, count, words } = *outcome;
+    // As above: the records are written and overlap nothing.
+    unsafe {
+        boanhetri_note(
+            records.as_mut_ptr(),
+            records.len(),
+            common,
+            line.as_ptr(),
+            line.len(),
+            Verdict { answer, count, words },
+        )
+    }
 }

@@ -8,7 +8,7 @@ use super::draft::{days_before, Draft, Maker, Want};
 use super::kinds::Kind;
 use super::registers::any_pair;
 use super::rng::{Rng, CODE};
-use super::world::{oldest, World, NOT_LAPSED};
+use super::world::{make_lei, oldest, World, NOT_LAPSED};
 
 /// How many rows the register has room for, beside those used before the first line.
 const ROOM: usize = 1024;
@@ -64,6 +64,29 @@ impl BenchDay {
         assert_eq!(convert(&self.register, &mut converted), 0, "a day starts with version 1");
         self.register = converted;
         self
+    }
+
+    /// The same lines, but of so many executing entities. They are no longer what they were by the lists.
+    pub fn lines_of(&self, seed: u64, entities: usize) -> Vec<Vec<u8>> {
+        let mut lines = self.lines.clone();
+        spread(&mut Rng::new(seed), entities, &mut lines);
+        lines
+    }
+}
+
+/// Gives the lines whose cell 4 is as long as an entity other ones, so many in all: they come up one by one, and come back
+/// in any order.
+pub fn spread(rng: &mut Rng, firms: usize, lines: &mut [Vec<u8>]) {
+    let firms: Vec<[u8; 20]> = (0..firms).map(|_| make_lei(rng)).collect();
+    let mut seen = 0;
+    for line in lines {
+        let mut cells: Vec<&[u8]> = line.split(|&byte| byte == b'|').collect();
+        if cells.get(3).is_none_or(|entity| entity.len() != 20) {
+            continue;
+        }
+        seen = (seen + usize::from(seen == 0 || rng.one_in(3))).min(firms.len());
+        cells[3] = &firms[rng.below(seen)];
+        *line = cells.join(&b'|');
     }
 }
 

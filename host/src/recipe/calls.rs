@@ -171,7 +171,7 @@ impl Maker {
     }
 
     /// Damages a call so that it gets this refusal, if none before.
-    fn damage(&mut self, case: &mut Case, number: u16) {
+    pub fn damage(&mut self, case: &mut Case, number: u16) {
         match number {
             1..=5 => {
                 let list = number as usize - 1;

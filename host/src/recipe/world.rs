@@ -520,6 +520,24 @@ impl World {
         }
     }
 
+    /// Adds entities to the list that are good on every day, or would be if their check digits were right.
+    pub fn add_firms(&mut self, rng: &mut Rng, firms: &[[u8; 20]], right: bool) {
+        let mut list = self.lists[0].to_vec();
+        for &key in firms {
+            let status = rng.of(&[1, 1, 1, 3, 4, 2]);
+            let row = LeiRow { key, status, entity: 1, registered: EARLY, updated: EARLY };
+            list.extend(row.bytes());
+            self.lei_rows.push(row);
+        }
+        let rows = ((list.len() - 9) / 30) as u32;
+        list[5..9].copy_from_slice(&rows.to_le_bytes());
+        self.lists[0] = list.into();
+        self.leis.extend(firms);
+        if !right {
+            self.wrong.extend(firms);
+        }
+    }
+
     pub fn lei_good(&self, lei: &[u8; 20], day: Day, statuses: &[u8]) -> bool {
         let day = day.number();
         !self.wrong.contains(lei)

@@ -7,15 +7,16 @@ use std::time::{Duration, Instant};
 
 use host::codes::{CODES, COUNT};
 use host::file::{Answered, Case};
-use host::reference::Call;
-use measured::changes::{Calls, Conversion, Thrown};
+use host::reference::{Call, Noted, Record, MOST_RECORDS};
+use measured::changes::{Calls, Conversion, Noting, Thrown};
 use measured::guarded::{Against, Guarded};
 
 const USAGE: &str = "usage: fuzz SEED COUNT [SECONDS]
 Makes COUNT calls, the same for the same SEED, but ends after so many SECONDS (600).";
 
-/// More bytes than a call of ours ever has in one run of them.
+/// More bytes than a call of ours ever has in one run of them, but for the records of a table.
 const ROOM: usize = 1 << 16;
+const TABLE_ROOM: usize = 1 << 18;
 
 /// No call takes a second; after so many it hangs.
 const PATIENCE: u32 = 20;
@@ -49,6 +50,8 @@ struct Places {
     read: [Guarded; 6],
     register: Guarded,
     findings: Guarded,
+    records: Guarded,
+    common: Guarded,
 }
 
 impl Places {
@@ -57,6 +60,8 @@ impl Places {
             read: std::array::from_fn(|_| Guarded::new(ROOM)),
             register: Guarded::new(ROOM),
             findings: Guarded::new(ROOM),
+            records: Guarded::new(TABLE_ROOM),
+            common: Guarded::new(ROOM),
         }
     }
 
@@ -88,6 +93,55 @@ impl Places {
         let answer = measured::convert(from, to);
         assert!(from == conversion.from, "a source that was written to");
         Converted { answer, to: to.to_vec() }
+    }
+
+    /// Notes a line in the same way.
+    fn note(&mut self, noting: &Noting, against: Against) -> Counted {
+        let line = self.read[0].show(&noting.line, against);
+        let records = self.records.lend_records(&noting.records, against);
+        let common = self.common.lend_records(std::slice::from_ref(&noting.common), against);
+        let noted = measured::note(records, &mut common[0], line, &noting.outcome);
+        assert!(line == noting.line, "a line that was written to");
+        Counted { noted, records: records.to_vec(), common: common[0].clone() }
+    }
+}
+
+/// What comes of noting a line: where it went, and the whole table afterwards.
+#[derive(PartialEq, Eq)]
+struct Counted {
+    noted: Noted,
+    records: Vec<Record>,
+    common: Record,
+}
+
+impl Counted {
+    /// Asks the reference.
+    fn by_reference(noting: &Noting) -> Counted {
+        let Noting { mut records, mut common, line, outcome } = noting.clone();
+        let noted = host::reference::note(&mut records, &mut common, &line, &outcome);
+        Counted { noted, records, common }
+    }
+
+    /// The records one behind another, the common one behind them.
+    fn in_bytes(&self) -> Vec<u8> {
+        self.records.iter().chain([&self.common]).flat_map(Record::to_bytes).collect()
+    }
+
+    /// The numbers of the records that are not as they were.
+    fn changed(&self, noting: &Noting) -> Vec<usize> {
+        (0..self.records.len()).filter(|&number| self.records[number] != noting.records[number]).collect()
+    }
+
+    /// What is promised of every line, whatever the reference says. The first promise that is broken, in words.
+    fn broken(&self, noting: &Noting) -> Option<&'static str> {
+        let changed = self.changed(noting);
+        if changed.iter().any(|&number| number >= MOST_RECORDS) {
+            return Some("a record changed behind those that are used");
+        }
+        if changed.len() > usize::from(!self.noted.common) {
+            return Some("a record changed that the line is not noted in");
+        }
+        (!self.noted.common && self.common != noting.common).then_some("a common record changed by a line of another")
     }
 }
 
@@ -139,9 +193,23 @@ struct Tally {
     /// Calls judged over a register of version 2, and those of them without a finding.
     version_2: [u64; 2],
     conversions: [u64; CONVERSIONS.len()],
+    /// Lines noted in a record, of these such as took it, and lines in the common record; and those of them all that met
+    /// a counter at its top.
+    notes: [u64; 3],
+    stuck: u64,
 }
 
 impl Tally {
+    fn add_note(&mut self, noting: &Noting, counted: &Counted) {
+        self.calls += 1;
+        let taken = counted.changed(noting).iter().any(|&number| noting.records[number].is_free());
+        let Noted { common, stuck } = counted.noted;
+        self.notes[0] += u64::from(!common);
+        self.notes[1] += u64::from(taken);
+        self.notes[2] += u64::from(common);
+        self.stuck += u64::from(stuck);
+    }
+
     fn add_conversion(&mut self, converted: &Converted) {
         self.calls += 1;
         let which = CONVERSIONS.iter().position(|answer| *answer == converted.answer).expect("the reference's answer");
@@ -173,6 +241,12 @@ impl Tally {
         println!("codes: {seen} of {COUNT} seen; the rarest is {code:03}, seen {rarest} times");
         let [done, source, room] = self.conversions;
         println!("conversions: {}; done: {done}, refused by 6: {source}, by 12: {room}", done + source + room);
+        let ([own, taken, common], stuck) = (self.notes, self.stuck);
+        println!(
+            "noted: {}; in a record: {own}, of these in a free one: {taken}; in the common record: {common}",
+            own + common
+        );
+        println!("noted with a counter at its top: {stuck}");
     }
 }
 
@@ -230,6 +304,28 @@ fn check_conversion(places: &mut Places, conversion: &Conversion) -> Result<Conv
     Ok(converted)
 }
 
+/// Notes one line twice and holds it against the promises and the reference.
+fn check_note(places: &mut Places, noting: &Noting) -> Result<Counted, String> {
+    unsafe { alarm(PATIENCE) };
+    let counted = places.note(noting, Against::End);
+    let again = places.note(noting, Against::Start);
+    unsafe { alarm(0) };
+    let noted = counted.noted;
+    if let Some(promise) = counted.broken(noting) {
+        return Err(format!("{promise}: {noted:?}"));
+    }
+    if again != counted {
+        return Err(format!("the same line noted otherwise: {noted:?}, {:?}", again.noted));
+    }
+    let expected = Counted::by_reference(noting);
+    if expected != counted {
+        let (theirs, ours) = (expected.in_bytes(), counted.in_bytes());
+        let differs = first_difference("table", &theirs, &ours);
+        return Err(format!("{noted:?}, the reference says {:?}; {differs}", expected.noted));
+    }
+    Ok(counted)
+}
+
 /// A call for a message. The seed makes it again, so the lists and the register are not printed.
 fn in_words(case: &Case) -> String {
     let Case { line, register, day, micro, polish, findings, .. } = case;
@@ -242,6 +338,10 @@ fn conversion_in_words(Conversion { from, to }: &Conversion) -> String {
     format!("a source of {} bytes with the head {head:02x?}, a target of {} bytes", from.len(), to.len())
 }
 
+fn noting_in_words(Noting { records, line, outcome, .. }: &Noting) -> String {
+    format!("a table of {} records, noted with {outcome:?}\n{}", records.len(), line.escape_ascii())
+}
+
 fn run(seed: u64, count: u64, seconds: u64) -> Result<(), String> {
     SEED.store(seed, Ordering::Relaxed);
     for number in ENDINGS {
@@ -250,8 +350,16 @@ fn run(seed: u64, count: u64, seconds: u64) -> Result<(), String> {
     let start = Instant::now();
     let mut calls = Calls::new(seed);
     let mut places = Places::new();
-    let mut tally =
-        Tally { calls: 0, answers: [0; 12], clean: 0, codes: [0; COUNT], version_2: [0; 2], conversions: [0; 3] };
+    let mut tally = Tally {
+        calls: 0,
+        answers: [0; 12],
+        clean: 0,
+        codes: [0; COUNT],
+        version_2: [0; 2],
+        conversions: [0; 3],
+        notes: [0; 3],
+        stuck: 0,
+    };
     while tally.calls < count && start.elapsed() < Duration::from_secs(seconds) {
         let number = tally.calls + 1;
         CALL.store(number, Ordering::Relaxed);
@@ -263,6 +371,10 @@ fn run(seed: u64, count: u64, seconds: u64) -> Result<(), String> {
             Thrown::Converted(conversion) => {
                 let converted = check_conversion(&mut places, &conversion);
                 tally.add_conversion(&converted.map_err(|what| told(what, conversion_in_words(&conversion)))?);
+            }
+            Thrown::Noted(noting) => {
+                let counted = check_note(&mut places, &noting);
+                tally.add_note(&noting, &counted.map_err(|what| told(what, noting_in_words(&noting)))?);
             }
         }
     }
