@@ -11,8 +11,8 @@ const USAGE: &str = "usage:
   bench pace                            lines per second of both sides, over registers of both versions, and noted
   bench growth                          time for a line as the lists and the register grow
   bench once ours|reference [1|2]       one round of one side, to count its instructions; version 1 where none is said
-  bench once noting|reference_noting [few|256]
-                                        the same for noting all lines, of the day's few executing entities or of 256";
+  bench once noting|reference_noting [few|60|256]
+                                        the same for noting all lines, of the day's few executing entities, 60 or 256";
 
 const SEED: u64 = 1;
 const ROUNDS: usize = 5;
@@ -20,6 +20,9 @@ const ROUNDS: usize = 5;
 /// The lines of the comparison, and of each size where the lists or the register grow.
 const LINES: usize = 20_000;
 const LINES_GROWING: usize = 1000;
+
+/// The firms of a reporting house.
+const FIRMS: usize = 60;
 
 const SIZES: [usize; 4] = [64, 1000, 10_000, 100_000];
 
@@ -80,16 +83,22 @@ impl Table {
 #[inline(never)]
 fn noting(notes: &Notes, table: &mut Table) -> usize {
     let Table { records, common } = table;
-    let lines = notes.lines.iter().zip(&notes.outcomes);
-    lines.filter(|(line, outcome)| measured::note(records, common, line, outcome).common).count()
+    let mut shared = 0;
+    for (line, outcome) in notes.lines.iter().zip(&notes.outcomes) {
+        shared += usize::from(measured::note(records, common, line, outcome).common);
+    }
+    shared
 }
 
 /// The same by the reference.
 #[inline(never)]
 fn reference_noting(notes: &Notes, table: &mut Table) -> usize {
     let Table { records, common } = table;
-    let lines = notes.lines.iter().zip(&notes.outcomes);
-    lines.filter(|(line, outcome)| host::reference::note(records, common, line, outcome).common).count()
+    let mut shared = 0;
+    for (line, outcome) in notes.lines.iter().zip(&notes.outcomes) {
+        shared += usize::from(host::reference::note(records, common, line, outcome).common);
+    }
+    shared
 }
 
 /// The reference's reading of the lists, once for all lines.
@@ -186,7 +195,7 @@ fn print_noting(judging: Pace) {
     println!("| Entities | Ours, microseconds a line | Reference | Ratio | Ours as a part of judging | Reference |");
     println!("|---|---|---|---|---|---|");
     let day = day_of(Version::One);
-    for entities in [None, Some(MOST_RECORDS)] {
+    for entities in [None, Some(FIRMS), Some(MOST_RECORDS)] {
         let (entities, Pace { ours, reference }) = compare_noting(&notes(&day, entities));
         let (part, their_part) = (ours / judging.ours, reference / judging.reference);
         let ratio = ours / reference;
@@ -258,6 +267,7 @@ fn main() -> ExitCode {
         ["once", side @ ("noting" | "reference_noting")] | ["once", side @ ("noting" | "reference_noting"), "few"] => {
             note_once(side, None);
         }
+        ["once", side @ ("noting" | "reference_noting"), "60"] => note_once(side, Some(FIRMS)),
         ["once", side @ ("noting" | "reference_noting"), "256"] => note_once(side, Some(MOST_RECORDS)),
         _ => {
             eprintln!("{USAGE}");
