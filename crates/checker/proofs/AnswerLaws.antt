@@ -1,4 +1,4 @@
--- What is printed for a line is its outcome.
+-- What is printed and noted for a line is its outcome.
 use mathlib.Core.Path.{_≡_, _∙_, refl, ap}
 use mathlib.Core.Bool.{Bool, true, false, cond}
 use mathlib.Core.List.{List, [], _∷_, _++_, append-assoc}
@@ -16,6 +16,8 @@ use Rattle.verdict.proofs.Promises.{code-count}
 use Rattle.facts.specs.Rules.{allFlags}
 use Rattle.judge.specs.Refusal.{refusal}
 use Rattle.judge.specs.Outcome.{Outcome, outcome, Judged, judgedOutcome, refusedOutcome}
+use Rattle.table.specs.Rows.{Table}
+use Rattle.table.specs.Noted.{noted}
 use Rattle.buffer.specs.Kept.{Kept}
 use Rattle.buffer.proofs.KeptLaws.{keep-front, keep-then}
 use Rattle.checker.specs.Printed.{decimal, spaced, printed, Answered}
@@ -34,22 +36,23 @@ outcome-counted c room = either (eqb (refusal c room) 0)
     either true = record { count-is = refl; few = omega (arith, pick-short codes (allFlags c), code-count) }
     either false = record { count-is = refl; few = omega arith }
 
-pub answered : {number n : ℕ} {o : Outcome} {before findings register codes out out' : List ℕ} {v : Verdict}
-    → Counted o → Judged o before v findings register → codes ≡ take (v .count) findings
-    → Kept out 0 (printed number (v .answer) (v .count) codes) out' n → Answered number o out out' n register
-answered {number} {n} {o} {before} {findings} {register} {codes} {out} {out'} {v} counted e listed p =
+pub answered : {number n : ℕ} {o : Outcome} {line before findings register codes out out' : List ℕ} {table table' : Table} {v : Verdict}
+    → Counted o → Judged o before v findings register → table' ≡ noted table line v → codes ≡ take (v .count) findings
+    → Kept out 0 (printed number (v .answer) (v .count) codes) out' n → Answered number line o table out out' n register table'
+answered {number} {n} {o} {line} {before} {findings} {register} {codes} {out} {out'} {table} {table'} {v} counted e added listed p =
     let same : codes ≡ o .listed =
     listed
     ∙ (λ i. take ((ap (λ (w : Verdict). w .count) (e .says) ∙ counted .count-is) i) ((e .lists) i))
     ∙ take-append-seam (o .listed) _ in
-    let line : printed number (v .answer) (v .count) codes ≡ printed number (o .verdict .answer) (o .verdict .count) (o .listed) =
+    let same-text : printed number (v .answer) (v .count) codes ≡ printed number (o .verdict .answer) (o .verdict .count) (o .listed) =
     λ i. printed number ((e .says) i .answer) ((e .says) i .count) (same i) in
     record {
       prints = λ room.
-          keep-front p ∙ ap (take (length out)) line
+          keep-front p ∙ ap (take (length out)) same-text
           ∙ take-all (length out) (printed number (o .verdict .answer) (o .verdict .count) (o .listed))
           (omega (arith, printed-short number (o .verdict .answer) (o .verdict .count) (o .listed) (counted .few)));
       keeps = e .keeps;
+      notes = added ∙ ap (noted table line) (e .says);
     }
 
 -- number, answer and count, codes, LF: one behind the other

@@ -75,7 +75,18 @@ digits-short (suc f) n = either (digits-short f (n / 10)) (ltb n 10)
     either h true = omega arith
     either h false = rw length-append (omega arith)
 
-spaced-short : (ns : List ℕ) → length (spaced ns) ≤ 21 * length ns
+-- nor more than the power of ten that it is under
+pub digits-under : (f k n : ℕ) → n < 10 ^ suc k → length (digitsOf f n) ≤ suc k
+unfolding digitsOf
+digits-under zero k n h = omega arith
+digits-under (suc f) zero n h = rw (lt-ltb n 10 h) (omega arith)
+digits-under (suc f) (suc k) n h =
+    by-test (ltb n 10) (λ t. rw t (omega arith))
+    (λ t.
+    let below : n < 10 * 10 ^ suc k = rw (more (suc k)) at h in
+    rw (t, length-append) (omega (arith, digits-under f k (n / 10) (omega arith))))
+
+pub spaced-short : (ns : List ℕ) → length (spaced ns) ≤ 21 * length ns
 unfolding spaced
 spaced-short [] = omega arith
 spaced-short (n ∷ ns) = rw length-append (omega (arith, digits-short 20 n, spaced-short ns))

@@ -1,4 +1,5 @@
--- The paper's example, by computation: what the program writes for `h`, a cancellation of a pair that nobody reported, and `x`.
+-- The paper's example, by computation: what the program writes for `h`, a cancellation of a pair that nobody reported, and `x`; and the
+-- summary of these.
 use mathlib.Core.Path.{_≡_, refl}
 use mathlib.Core.List.{List, _++_}
 use Prim.Native.Nat.{ℕ}
@@ -24,12 +25,19 @@ use Rattle.facts.specs.Rules.{goodCells, pairStands, holdings, flags, polishFla
 use Rattle.facts.specs.Words.{leiGoodUnlapsed, leiGood, leiWrong}
 use Rattle.verdict.specs.Codes.{ruleCodes, formCodes, polishCodes, codes}
 use Rattle.verdict.specs.Verdict.{wordOf, pick, verdictOf, refusedBy}
+use Rattle.verdict.specs.Counted.{times}
+use Rattle.verdict.specs.Bits.{bitsOf, flagsIn}
+use Rattle.summary.specs.Counting.{up, stuck, raised, anyStuck, added, stuckIn, fresh, enteredOf}
+use Rattle.summary.specs.Judged.{entityIn, names, kindOf, ofNoEntity, lineOf}
+use Rattle.summary.specs.Noting.{reachOf, stopsAt, firstStop, noteOf}
+use Rattle.table.specs.Noted.{noted}
 use Rattle.judge.specs.Outcome.{outcome}
 use Rattle.judge.specs.Refusal.{clean, noRoom, refusal}
 use Rattle.checker.specs.Bare.{bare}
 use Rattle.checker.specs.Lines.{unended, linesFrom}
 use Rattle.checker.specs.Printed.{digitsOf as digitsOf-printed, spaced, printed}
-use Rattle.checker.specs.Program.{judged, answers, programWrites}
+use Rattle.checker.specs.Program.{judged, answers, programWrites, notes, tableAfter}
+use Rattle.checker.specs.Report.{countText, countTexts, recordText, firmText, firmTexts, summaryText}
 
 -- E = 00000000000000000098
 abbrev example : List ℕ
@@ -39,3 +47,7 @@ example =
 pub papers-example : programWrites example ≡ ascii "2 0 2 24 60\n3 10 0\n"
 unfolding allOf firstFrom digitOf suits shape startsWith same monthLength isDay isMoment valueOf digitsOf writtenDigits decimal cellsOf cell statusOf formFinding formFindings holds formOf framedAs chunks rowsFrom some version dayWidth used capacity framed full pairBytes rowsIn ownFrom look firstRow standing goodCells pairStands holdings flags polishFlags leiGoodUnlapsed leiGood leiWrong ruleCodes formCodes polishCodes codes wordOf pick verdictOf refusedBy outcome allFlags clean noRoom refusal bare unended linesFrom digitsOf-printed spaced printed judged answers programWrites
 papers-example = refl
+
+pub papers-summary : summaryText (tableAfter example) ≡ ascii "summary\n00000000000000000098 0 0 1 0 0 24:1 60:1\ncommon 0 0 0 0 1\n"
+unfolding allOf firstFrom digitOf suits shape startsWith same monthLength isDay isMoment valueOf digitsOf writtenDigits decimal cellsOf cell statusOf formFinding formFindings holds formOf framedAs chunks rowsFrom some version dayWidth used capacity framed full pairBytes rowsIn ownFrom look firstRow standing goodCells pairStands holdings flags polishFlags leiGoodUnlapsed leiGood leiWrong ruleCodes formCodes polishCodes codes wordOf pick verdictOf refusedBy outcome allFlags clean noRoom refusal bare unended linesFrom judged flagsIn bitsOf times up stuck raised anyStuck added stuckIn fresh enteredOf entityIn names kindOf ofNoEntity lineOf reachOf stopsAt firstStop noteOf noted notes tableAfter digitsOf-printed spaced countText countTexts recordText firmText firmTexts summaryText
+papers-summary = refl

@@ -4,7 +4,10 @@ mod LineEndLaws
 mod DecimalLaws
 mod AnswerLaws
 mod ProgressLaws
+mod ReportLaws
+mod RowLaws
 mod Enough
+mod TableLaws
 mod Program
 mod Example
 mod Setting

@@ -1,4 +1,5 @@
--- Whatever pieces the input comes in, what the program's functions hand to the write is, joined, what the paper has it write.
+-- Whatever pieces the input comes in, what the program's functions hand to the write is, joined, what the paper has it write, with the
+-- summary and without.
 use mathlib.Core.Path.{_≡_, _∙_, refl, sym, ap}
 use mathlib.Core.Bool.{Bool, true, false, cond}
 use mathlib.Core.List.{List, [], _∷_, _++_, flatten, append-nil, append-assoc}
@@ -13,18 +14,26 @@ use borrow.Fn.Kinds.{Dens, resT, endedOf}
 use Rattle.text.proofs.Bools.{by-test}
 use Rattle.buffer.proofs.KeptLaws.{take-again}
 use Rattle.judge.specs.Outcome.{Outcome}
+use Rattle.table.specs.Rows.{Table, Rows, recordCount, tableIn}
+use Rattle.table.specs.Noted.{emptyTable}
+use Rattle.table.proofs.NoteLaws.{record-count}
 use Rattle.checker.specs.Setting.{emptyRegister}
 use Rattle.checker.specs.Bare.{bare}
 use Rattle.checker.specs.Lines.{unended, linesFrom}
-use Rattle.checker.specs.Printed.{answerTo}
-use Rattle.checker.specs.Program.{judged, answers, programWrites}
-use Rattle.checker.specs.Progress.{Progress, progress, held, start, told, left, room, raised, ended, more, after, writes, lastAnswer, writesAll, Run, begins, turn}
+use Rattle.checker.specs.Printed.{answerTo, longest}
+use Rattle.checker.specs.Program.{judged, answers, programWrites, tableAfter}
+use Rattle.checker.specs.Progress.{Progress, progress, held, start, told, left, entered, room, raised, ended, more, after, writes, lastAnswer, lastTable, writesAll, Finished, Run, begins, turn}
+use Rattle.checker.specs.Report.{summaryText, programReports, Reporting, row}
 use Rattle.checker.proofs.ProgressLaws.{after-append, writes-append}
 use Rattle.checker.proofs.Enough.{kept-ended, kept-last}
+use Rattle.checker.proofs.RowLaws.{reported}
+use Rattle.checker.proofs.TableLaws.{input-noted}
 use Rattle.checker.proofs.advance.Kinds as advance-kinds
 use Rattle.checker.proofs.advance.Reads as advance-reads
 use Rattle.checker.proofs.finish.Kinds as finish-kinds
 use Rattle.checker.proofs.finish.Reads as finish-reads
+use Rattle.checker.proofs.report.keep_row.Kinds as keep-row-kinds
+use Rattle.checker.proofs.report.keep_row.Reads as keep-row-reads
 
 -- the answers to the lines from a number on, of which line one has none
 abbrev behind : ℕ → List ℕ → List (List ℕ) → List ℕ
@@ -55,19 +64,19 @@ one-line number kept line register lines h e =
 abbrev total : Progress → List ℕ → List ℕ
 total p s = writes p s ++ lastAnswer (after p s)
 
-at-end : (whole : List ℕ) (number : ℕ) (register : List ℕ) → 1 ≤ number
-    → lastAnswer (progress (take room whole) number register) ≡ behind number register (unended whole)
+at-end : (whole : List ℕ) (number : ℕ) (register : List ℕ) (table : Table) → 1 ≤ number
+    → lastAnswer (progress (take room whole) number register table) ≡ behind number register (unended whole)
 unfolding unended answers
-at-end [] number register h = none-behind number register
-at-end (b ∷ s) number register h =
+at-end [] number register table h = none-behind number register
+at-end (b ∷ s) number register table h =
     ap (λ (t : Bool). cond t (told number (take room (b ∷ s)) register) []) (lt-ltb 0 (length (take room (b ∷ s))) (omega arith))
     ∙ sym (append-nil (told number (take room (b ∷ s)) register))
-    ∙ one-line number (take room (b ∷ s)) (b ∷ s) register [] h (kept-last (b ∷ s) register)
+    ∙ one-line number (take room (b ∷ s)) (b ∷ s) register [] h (kept-last (b ∷ s) register .outcome-is)
 
 -- one byte, which is LF or is not, by what is written for those behind it
-module _ (b : ℕ) (s whole : List ℕ) (number : ℕ) (register : List ℕ) where
+module _ (b : ℕ) (s whole : List ℕ) (number : ℕ) (register : List ℕ) (table : Table) where
   abbrev now : Progress
-  now = progress (take room whole) number register
+  now = progress (take room whole) number register table
 
   abbrev here : List ℕ
   here = told number (bare (take room whole)) register
@@ -75,47 +84,50 @@ module _ (b : ℕ) (s whole : List ℕ) (number : ℕ) (register : List ℕ) whe
   abbrev next : List ℕ
   next = left number (bare (take room whole)) register
 
+  abbrev next-table : Table
+  next-table = entered number (bare (take room whole)) register table
+
   abbrev by-byte : Bool → List ℕ
   by-byte t = (cond t here [] ++ writes (cond t (ended now) (more now b)) s) ++ lastAnswer (after (cond t (ended now) (more now b)) s)
 
   abbrev lines-by : Bool → List ℕ
   lines-by t = behind number register (cond t (bare whole ∷ linesFrom [] s) (linesFrom (whole ++ (b ∷ [])) s))
 
-  line-ends : 1 ≤ number → number < 18446744073709551615 → total (progress [] (number + 1) next) s ≡ behind (number + 1) next (linesFrom [] s)
+  line-ends : 1 ≤ number → number < 18446744073709551615 → total (progress [] (number + 1) next next-table) s ≡ behind (number + 1) next (linesFrom [] s)
       → by-byte true ≡ lines-by true
   line-ends h k e =
       let up : raised number ≡ number + 1 = omega arith in
       let later : leb (number + 1) 1 ≡ false = lt-leb (number + 1) 1 (omega arith) in
       append-assoc here (writes (ended now) s) (lastAnswer (after (ended now) s))
-      ∙ ap (λ (n : ℕ). here ++ total (progress [] n next) s) up
+      ∙ ap (λ (n : ℕ). here ++ total (progress [] n next next-table) s) up
       ∙ ap (λ (l : List ℕ). here ++ l) e
       ∙ ap (λ (x : Bool). here ++ cond x (answers 2 next (drop 1 (linesFrom [] s))) (answers (number + 1) next (linesFrom [] s))) later
-      ∙ one-line number (bare (take room whole)) (bare whole) register (linesFrom [] s) h (kept-ended whole register)
+      ∙ one-line number (bare (take room whole)) (bare whole) register (linesFrom [] s) h (kept-ended whole register .outcome-is)
 
-  line-goes-on : total (progress (take room (whole ++ (b ∷ []))) number register) s ≡ behind number register (linesFrom (whole ++ (b ∷ [])) s)
+  line-goes-on : total (progress (take room (whole ++ (b ∷ []))) number register table) s ≡ behind number register (linesFrom (whole ++ (b ∷ [])) s)
       → by-byte false ≡ lines-by false
-  line-goes-on e = ap (λ (l : List ℕ). total (progress l number register) s) (take-again room whole (b ∷ [])) ∙ e
+  line-goes-on e = ap (λ (l : List ℕ). total (progress l number register table) s) (take-again room whole (b ∷ [])) ∙ e
 
   by-cases : (t : Bool) → (t ≡ true → by-byte true ≡ lines-by true) → (t ≡ false → by-byte false ≡ lines-by false) → by-byte t ≡ lines-by t
   by-cases true f g = f refl
   by-cases false f g = g refl
 
 -- the bytes of a line have begun, and others follow
-all-written : (s whole : List ℕ) (number : ℕ) (register : List ℕ) → 1 ≤ number → number + length s ≤ 18446744073709551615
-    → total (progress (take room whole) number register) s ≡ behind number register (linesFrom whole s)
+all-written : (s whole : List ℕ) (number : ℕ) (register : List ℕ) (table : Table) → 1 ≤ number → number + length s ≤ 18446744073709551615
+    → total (progress (take room whole) number register table) s ≡ behind number register (linesFrom whole s)
 unfolding after writes linesFrom
-all-written [] whole number register h k = at-end whole number register h
-all-written (b ∷ s) whole number register h k =
-    by-cases b s whole number register (eqb b 10)
+all-written [] whole number register table h k = at-end whole number register table h
+all-written (b ∷ s) whole number register table h k =
+    by-cases b s whole number register table (eqb b 10)
     (λ t.
-    line-ends b s whole number register h (omega arith)
-    (all-written s [] (number + 1) (left number (bare (take room whole)) register) (omega arith) (omega arith)))
-    (λ t. line-goes-on b s whole number register (all-written s (whole ++ (b ∷ [])) number register h (omega arith)))
+    line-ends b s whole number register table h (omega arith)
+    (all-written s [] (number + 1) (next b s whole number register table) (next-table b s whole number register table) (omega arith) (omega arith)))
+    (λ t. line-goes-on b s whole number register table (all-written s (whole ++ (b ∷ [])) number register table h (omega arith)))
 
 -- the whole input, from the start: lines are counted in 64 bits, so it is shorter than that
 pub input-written : (input : List ℕ) → length input < 18446744073709551615 → writes start input ++ lastAnswer (after start input) ≡ programWrites input
 unfolding programWrites
-input-written input h = all-written input [] 1 emptyRegister (omega arith) (omega arith)
+input-written input h = all-written input [] 1 emptyRegister emptyTable (omega arith) (omega arith)
 
 by-chunks : (p : Progress) (chunks : List (List ℕ)) → writesAll p chunks ≡ total p (flatten chunks)
 unfolding after writes flatten writesAll
@@ -155,28 +167,60 @@ pub program-writes : {input output put : List ℕ} {p : Progress} → Run input 
 program-writes {input} run h e =
     (λ i. followed run .written i ++ (e ∙ ap lastAnswer (followed run .stands)) i) ∙ input-written input h
 
+-- Every run, however long: the table that is left at the end of the input is that of its lines.
+pub program-notes : {input output : List ℕ} {p : Progress} {table : Table} → Run input p output → table ≡ lastTable p → table ≡ tableAfter input
+program-notes {input} run e = e ∙ ap lastTable (followed run .stands) ∙ input-noted input
+
+-- Every run, with the summary behind it: the rows of the table that is left, put one after another.
+pub program-reports : {input output put report : List ℕ} {p : Progress} {table : Table} → Run input p output
+    → length input < 18446744073709551615 → Finished p put table → length (table .records) ≡ recordCount
+    → Reporting table (recordCount + 1) report → (output ++ put) ++ report ≡ programReports input
+program-reports {table = table} run h f whole r =
+    λ i. program-writes run h (f .puts) i ++ (reported table whole r ∙ ap summaryText (program-notes run (f .notes))) i
+
 -- A call of `advance` is a turn: its contract, as it stands over the code, is what `turn` asks for.
 pub turns :
-    {taken output : List ℕ} (κs : Lfts 4) (a : Dens κs advance-kinds.ps) (x : resT advance-kinds.r κs .Denot)
-    (s : AtExit (endedOf 4 advance-kinds.ps advance-kinds.r) κs)
+    {taken output : List ℕ} (κs : Lfts 6) (a : Dens κs advance-kinds.ps) (x : resT advance-kinds.r κs .Denot)
+    (s : AtExit (endedOf 6 advance-kinds.ps advance-kinds.r) κs)
     → advance-reads.Post κs a x s
-    → Run taken (held (a .1 .0 .now) (a .1 .1 .1 .0) (a .1 .1 .1 .1 .0) (a .1 .1 .0 .now)) output
-    → Run (taken ++ take (x .used) (a .0 .now)) (held (s .1 .0 .now) (x .kept) (x .number) (s .1 .1 .0 .now)) (output ++ take (x .written) (s .1 .1 .1 .1 .1 .0 .now))
+    → Run taken (held (a .1 .0 .now) (a .1 .1 .1 .1 .1 .0) (a .1 .1 .1 .1 .1 .1 .0) (a .1 .1 .0 .now) (a .1 .1 .1 .0 .now) (a .1 .1 .1 .1 .0 .now)) output
+    → Run (taken ++ take (x .used) (a .0 .now)) (held (s .1 .0 .now) (x .kept) (x .number) (s .1 .1 .0 .now) (s .1 .1 .1 .0 .now) (s .1 .1 .1 .1 .0 .now)) (output ++ take (x .written) (s .1 .1 .1 .1 .1 .1 .1 .0 .now))
 turns κs a x s post run = turn run post
 
 -- It takes some of the bytes that there are, and no more, so that turns come to the end of a chunk.
 pub turn-takes :
-    (κs : Lfts 4) (a : Dens κs advance-kinds.ps) (x : resT advance-kinds.r κs .Denot) (s : AtExit (endedOf 4 advance-kinds.ps advance-kinds.r) κs)
+    (κs : Lfts 6) (a : Dens κs advance-kinds.ps) (x : resT advance-kinds.r κs .Denot) (s : AtExit (endedOf 6 advance-kinds.ps advance-kinds.r) κs)
     → advance-reads.Post κs a x s → 0 < length (a .0 .now)
     → (0 < x .used) × (x .used ≤ length (a .0 .now))
 turn-takes κs a x s post h = (omega (arith, post .takes), omega (arith, post .takes))
 
 -- A call of `finish` ends the run: by its contract, all that was put is what the program writes for the input.
 pub ends :
-    {input output : List ℕ} (κs : Lfts 3) (a : Dens κs finish-kinds.ps) (x : resT finish-kinds.r κs .Denot)
-    (s : AtExit (endedOf 3 finish-kinds.ps finish-kinds.r) κs)
+    {input output : List ℕ} (κs : Lfts 5) (a : Dens κs finish-kinds.ps) (x : resT finish-kinds.r κs .Denot)
+    (s : AtExit (endedOf 5 finish-kinds.ps finish-kinds.r) κs)
     → finish-reads.Post κs a x s
-    → Run input (held (a .0 .now) (a .1 .1 .0) (a .1 .1 .1 .0) (a .1 .0 .now)) output
+    → Run input (held (a .0 .now) (a .1 .1 .1 .1 .0) (a .1 .1 .1 .1 .1 .0) (a .1 .0 .now) (a .1 .1 .0 .now) (a .1 .1 .1 .0 .now)) output
     → length input < 18446744073709551615
-    → output ++ take x (s .1 .1 .1 .1 .0 .now) ≡ programWrites input
-ends κs a x s post run h = program-writes run h post
+    → output ++ take x (s .1 .1 .1 .1 .1 .1 .0 .now) ≡ programWrites input
+ends κs a x s post run h = program-writes run h (post .puts)
+
+-- A call of `keep_row` is a row: by its contract, over a buffer with room for the longest line.
+pub rows :
+    {output : List ℕ} (κs : Lfts 3) (a : Dens κs keep-row-kinds.ps) (x : resT keep-row-kinds.r κs .Denot)
+    (s : AtExit (endedOf 3 keep-row-kinds.ps keep-row-kinds.r) κs)
+    → keep-row-reads.Post κs a x s → longest ≤ length (a .0 .now)
+    → Reporting (tableIn (a .1 .0 .now) (a .1 .1 .0 .now)) (a .1 .1 .1 .0) output
+    → Reporting (tableIn (a .1 .0 .now) (a .1 .1 .0 .now)) (a .1 .1 .1 .0 + 1) (output ++ take x (s .0 .now))
+rows κs a x s post room r = row r (post .prints room)
+
+-- So a run that `finish` ends, and the rows that it leaves, all of them put: joined, what the program writes with the summary.
+pub ends-reported :
+    {input output report : List ℕ} (κs : Lfts 5) (a : Dens κs finish-kinds.ps) (x : resT finish-kinds.r κs .Denot)
+    (s : AtExit (endedOf 5 finish-kinds.ps finish-kinds.r) κs)
+    → finish-reads.Post κs a x s
+    → Run input (held (a .0 .now) (a .1 .1 .1 .1 .0) (a .1 .1 .1 .1 .1 .0) (a .1 .0 .now) (a .1 .1 .0 .now) (a .1 .1 .1 .0 .now)) output
+    → length input < 18446744073709551615
+    → Rows (s .1 .1 .0 .now) (s .1 .1 .1 .0 .now)
+    → Reporting (tableIn (s .1 .1 .0 .now) (s .1 .1 .1 .0 .now)) (recordCount + 1) report
+    → (output ++ take x (s .1 .1 .1 .1 .1 .1 .0 .now)) ++ report ≡ programReports input
+ends-reported κs a x s post run h sized r = program-reports run h post (record-count (s .1 .1 .0 .now) (s .1 .1 .1 .0 .now) sized) r

@@ -4,20 +4,22 @@ use mathlib.Core.Bool.{Bool, true, false, cond, true≢false}
 use mathlib.Core.List.{List, [], _∷_, _++_, append-nil, append-assoc}
 use Prim.Native.Nat.{ℕ, suc, _+_, _-_, _≤_, _<_}
 use native.Mathlib.Omega.{arith}
-use lib.Dec.{eqb}
+use lib.Dec.{eqb, ltb}
 use lib.IntN.{ℤ}
 use lib.ListN.{length, take, drop, length-append, length-take, length-drop}
 use lib.Seq.{take-all, take-add}
 use borrow.Author.Tests.{eq-eqb, ne-eqb, eqb-false, le-leb, lt-leb, lt-ltb, le-ltb}
 use Rattle.text.proofs.Bools.{by-test}
 use Rattle.io.specs.Counts.{Counts, clamped}
+use Rattle.table.specs.Rows.{Table}
+use Rattle.table.specs.Noted.{emptyTable}
 use Rattle.buffer.specs.Kept.{Kept}
 use Rattle.buffer.proofs.KeptLaws.{keep-front, take-again}
 use Rattle.checker.specs.Setting.{emptyRegister}
 use Rattle.checker.specs.Bare.{bare}
 use Rattle.checker.specs.Printed.{Answered}
 use Rattle.checker.specs.Program.{judged}
-use Rattle.checker.specs.Progress.{Progress, progress, held, start, told, left, room, raised, ended, more, step, said, after, writes, lastAnswer, lineEnd, Told, Roomy, Advanced, Took, readIn, TookRead, Reached, ReadOn}
+use Rattle.checker.specs.Progress.{Progress, progress, start, told, left, entered, room, raised, ended, more, step, said, after, writes, lineEnd, Told, Roomy, Advanced, Finished, Took, readIn, TookRead, Reached, ReadOn}
 use Rattle.checker.proofs.LineEndLaws.{end-now, end-next, end-within, with-end}
 
 pub after-append : (p : Progress) (s t : List ℕ) → after p (s ++ t) ≡ after (after p s) t
@@ -35,27 +37,27 @@ writes-append p (b ∷ s) t =
 step-other : (p : Progress) (b : ℕ) → eqb b 10 ≡ false → step p b ≡ more p b
 step-other p b t = ap (λ (x : Bool). cond x (ended p) (more p b)) t
 
-none-kept : (s begun : List ℕ) (number : ℕ) (register : List ℕ) (end : ℕ) → length begun ≤ room → end ≡ 0
-    → after (progress begun number register) (take end s) ≡ progress (take room (begun ++ take end s)) number register
+none-kept : (s begun : List ℕ) (number : ℕ) (register : List ℕ) (table : Table) (end : ℕ) → length begun ≤ room → end ≡ 0
+    → after (progress begun number register table) (take end s) ≡ progress (take room (begun ++ take end s)) number register table
 unfolding after
-none-kept s begun number register end h e = rw (e, append-nil begun, take-all room begun h)
+none-kept s begun number register table end h e = rw (e, append-nil begun, take-all room begun h)
 
 -- before the first LF bytes are only kept
-pub plain : (s begun : List ℕ) (number : ℕ) (register : List ℕ) → length begun ≤ room
-    → after (progress begun number register) (take (lineEnd s) s) ≡ progress (take room (begun ++ take (lineEnd s) s)) number register
+pub plain : (s begun : List ℕ) (number : ℕ) (register : List ℕ) (table : Table) → length begun ≤ room
+    → after (progress begun number register table) (take (lineEnd s) s) ≡ progress (take room (begun ++ take (lineEnd s) s)) number register table
 unfolding after lineEnd
-plain [] begun number register h = none-kept [] begun number register 0 h refl
-plain (b ∷ s) begun number register h =
+plain [] begun number register table h = none-kept [] begun number register table 0 h refl
+plain (b ∷ s) begun number register table h =
     by-test (eqb b 10)
-    (λ t. none-kept (b ∷ s) begun number register (lineEnd (b ∷ s)) h (end-now b s t))
+    (λ t. none-kept (b ∷ s) begun number register table (lineEnd (b ∷ s)) h (end-now b s t))
     (λ t.
     let e : lineEnd (b ∷ s) ≡ suc (lineEnd s) = end-next b s t in
-    (λ i. after (progress begun number register) (take (e i) (b ∷ s)))
-    ∙ ap (λ (p : Progress). after p (take (lineEnd s) s)) (step-other (progress begun number register) b t)
-    ∙ plain s (take room (begun ++ (b ∷ []))) number register (rw length-take (omega arith))
-    ∙ ap (λ (l : List ℕ). progress l number register)
+    (λ i. after (progress begun number register table) (take (e i) (b ∷ s)))
+    ∙ ap (λ (p : Progress). after p (take (lineEnd s) s)) (step-other (progress begun number register table) b t)
+    ∙ plain s (take room (begun ++ (b ∷ []))) number register table (rw length-take (omega arith))
+    ∙ ap (λ (l : List ℕ). progress l number register table)
     (take-again room (begun ++ (b ∷ [])) (take (lineEnd s) s) ∙ ap (take room) (append-assoc begun (b ∷ []) (take (lineEnd s) s)))
-    ∙ sym (λ i. progress (take room (begun ++ take (e i) (b ∷ s))) number register))
+    ∙ sym (λ i. progress (take room (begun ++ take (e i) (b ∷ s))) number register table))
 
 pub silent : (s : List ℕ) (p : Progress) → writes p (take (lineEnd s) s) ≡ []
 unfolding writes lineEnd
@@ -69,66 +71,76 @@ silent (b ∷ s) p =
     ∙ silent s (step p b))
 
 -- a line that is skipped, and one that is answered
-pub told-none : {number : ℕ} {line register out : List ℕ} → number ≤ 1 → Told number line register out out 0 register
-unfolding told left
-told-none {number} h = record { prints = λ e. rw (le-leb number 1 h); keeps = rw (le-leb number 1 h) }
+pub told-none : {number : ℕ} {line register out : List ℕ} {table : Table} → number ≤ 1 → Told number line register table out out 0 register table
+unfolding told left entered
+told-none {number} h =
+    record { prints = λ e. rw (le-leb number 1 h); keeps = rw (le-leb number 1 h); notes = rw (le-leb number 1 h) }
 
-pub told-one : {number n : ℕ} {line register out out' register' : List ℕ} → 1 < number
-    → Answered number (judged line register) out out' n register' → Told number line register out out' n register'
-unfolding told left
-told-one {number} h a = record { prints = λ e. rw (lt-leb number 1 h) (a .prints e); keeps = rw (lt-leb number 1 h) (a .keeps) }
+pub told-one : {number n : ℕ} {line register out out' register' : List ℕ} {table table' : Table} → 1 < number
+    → Answered number line (judged line register) table out out' n register' table' → Told number line register table out out' n register' table'
+unfolding told left entered
+told-one {number} h a =
+    record {
+      prints = λ e. rw (lt-leb number 1 h) (a .prints e);
+      keeps = rw (lt-leb number 1 h) (a .keeps);
+      notes = rw (lt-leb number 1 h) (a .notes);
+    }
 
-module _ {line line' out : List ℕ} {kept begun end : ℕ} (chunk : List ℕ) (number : ℕ) (register : List ℕ) (e : end ≡ lineEnd chunk)
+module _ {line line' out : List ℕ} {kept begun end : ℕ} (chunk : List ℕ) (number : ℕ) (register : List ℕ) (table : Table) (e : end ≡ lineEnd chunk)
     (roomy : Roomy line out) (k : Kept line kept (take end chunk) line' begun) where
   -- the bytes before the LF are kept behind those that were
-  kept-so : held line' begun number register ≡ after (held line kept number register) (take (lineEnd chunk) chunk)
+  kept-so : progress (take begun line') number register table ≡ after (progress (take kept line) number register table) (take (lineEnd chunk) chunk)
   kept-so =
-      ap (λ (l : List ℕ). progress l number register)
+      ap (λ (l : List ℕ). progress l number register table)
       (keep-front k ∙ (λ i. take (roomy .for-line i) (take kept line ++ take (e i) chunk)))
-      ∙ sym (plain chunk (take kept line) number register (rw length-take (omega (arith, roomy .for-line))))
+      ∙ sym (plain chunk (take kept line) number register table (rw length-take (omega (arith, roomy .for-line))))
 
-  pub advanced-all : end ≡ length chunk → Advanced (held line kept number register) chunk end (held line' begun number register) (take 0 out)
+  pub advanced-all : end ≡ length chunk → Advanced (progress (take kept line) number register table) chunk end (progress (take begun line') number register table) (take 0 out)
   advanced-all h =
       record {
         takes = omega arith;
-        stands = kept-so ∙ ap (λ (n : ℕ). after (held line kept number register) (take n chunk)) (sym e);
+        stands = kept-so ∙ ap (λ (n : ℕ). after (progress (take kept line) number register table) (take n chunk)) (sym e);
         puts =
             sym
-            (ap (λ (n : ℕ). writes (held line kept number register) (take n chunk)) e ∙ silent chunk (held line kept number register));
+            (ap (λ (n : ℕ). writes (progress (take kept line) number register table) (take n chunk)) e ∙ silent chunk (progress (take kept line) number register table));
       }
 
-  pub advanced-line : {out' register' : List ℕ} {n next : ℕ} → (end ≡ length chunk → ⊥) → next ≡ raised number
-      → Told number (bare (take begun line')) register out out' n register'
-      → Advanced (held line kept number register) chunk (end + 1) (held line' 0 next register') (take n out')
+  pub advanced-line : {out' register' : List ℕ} {table' : Table} {n next : ℕ} → (end ≡ length chunk → ⊥) → next ≡ raised number
+      → Told number (bare (take begun line')) register table out out' n register' table'
+      → Advanced (progress (take kept line) number register table) chunk (end + 1) (progress [] next register' table') (take n out')
   unfolding after writes
-  advanced-line {out'} {register'} {n} {next} h r t =
+  advanced-line {out'} {register'} {table'} {n} {next} h r t =
       let inside : lineEnd chunk < length chunk = omega (arith, end-within chunk) in
       let bytes : take (end + 1) chunk ≡ take (lineEnd chunk) chunk ++ (10 ∷ []) =
       ap (λ (m : ℕ). take (m + 1) chunk) e ∙ with-end chunk inside in
       record {
         takes = omega arith;
         stands =
-            (λ i. progress [] (r i) (t .keeps i))
+            (λ i. progress [] (r i) (t .keeps i) (t .notes i))
             ∙ ap ended kept-so
-            ∙ sym (after-append (held line kept number register) (take (lineEnd chunk) chunk) (10 ∷ []))
-            ∙ ap (after (held line kept number register)) (sym bytes);
+            ∙ sym (after-append (progress (take kept line) number register table) (take (lineEnd chunk) chunk) (10 ∷ []))
+            ∙ ap (after (progress (take kept line) number register table)) (sym bytes);
         puts =
             t .prints (roomy .for-answer)
             ∙ sym (append-nil (told number (bare (take begun line')) register))
             ∙ ap (λ (p : Progress). writes p (10 ∷ [])) kept-so
-            ∙ ap (λ (l : List ℕ). l ++ writes (after (held line kept number register) (take (lineEnd chunk) chunk)) (10 ∷ [])) (sym (silent chunk (held line kept number register)))
-            ∙ sym (writes-append (held line kept number register) (take (lineEnd chunk) chunk) (10 ∷ []))
-            ∙ ap (writes (held line kept number register)) (sym bytes);
+            ∙ ap (λ (l : List ℕ). l ++ writes (after (progress (take kept line) number register table) (take (lineEnd chunk) chunk)) (10 ∷ [])) (sym (silent chunk (progress (take kept line) number register table)))
+            ∙ sym (writes-append (progress (take kept line) number register table) (take (lineEnd chunk) chunk) (10 ∷ []))
+            ∙ ap (writes (progress (take kept line) number register table)) (sym bytes);
       }
 
 -- the line that has begun where the input ends
-module _ {line out : List ℕ} {kept : ℕ} (number : ℕ) (register : List ℕ) (roomy : Roomy line out) where
-  pub last-none : kept ≤ 0 → take 0 out ≡ lastAnswer (held line kept number register)
-  last-none h = rw (le-ltb 0 (length (take kept line)) (rw length-take (omega arith)))
+module _ {line out : List ℕ} {kept : ℕ} (number : ℕ) (register : List ℕ) (table : Table) (roomy : Roomy line out) where
+  pub last-none : kept ≤ 0 → Finished (progress (take kept line) number register table) (take 0 out) table
+  last-none h =
+      let none : ltb 0 (length (take kept line)) ≡ false = le-ltb 0 (length (take kept line)) (rw length-take (omega arith)) in
+      record { puts = rw none; notes = rw none }
 
-  pub last-one : {out' register' : List ℕ} {n : ℕ} → 0 < kept → Told number (take kept line) register out out' n register'
-      → take n out' ≡ lastAnswer (held line kept number register)
-  last-one h t = rw (lt-ltb 0 (length (take kept line)) (rw length-take (omega (arith, roomy .for-line)))) (t .prints (roomy .for-answer))
+  pub last-one : {out' register' : List ℕ} {table' : Table} {n : ℕ} → 0 < kept → Told number (take kept line) register table out out' n register' table'
+      → Finished (progress (take kept line) number register table) (take n out') table'
+  last-one h t =
+      let some : ltb 0 (length (take kept line)) ≡ true = lt-ltb 0 (length (take kept line)) (rw length-take (omega (arith, roomy .for-line))) in
+      record { puts = rw some (t .prints (roomy .for-answer)); notes = rw some (t .notes) }
 
 -- the chunk is taken up to a place
 pub record TakenSoFar (p : Progress) (chunk : List ℕ) (at : ℕ) (q : Progress) : Type 0 where
@@ -189,9 +201,10 @@ module _ (got : ℤ) (chunk : List ℕ) {n : ℕ} (counts : Counts n chunk) (e :
       }
 
 -- where bytes lead
-pub from-start : {register : List ℕ} {q : Progress} → register ≡ emptyRegister → Reached (progress [] 1 register) q → Reached start q
-from-start e r =
-    record { bytes = r .bytes; there = r .there ∙ ap (λ (x : List ℕ). after (progress [] 1 x) (r .bytes)) e }
+pub from-start : {register : List ℕ} {table : Table} {q : Progress} → register ≡ emptyRegister → table ≡ emptyTable
+    → Reached (progress [] 1 register table) q → Reached start q
+from-start e f r =
+    record { bytes = r .bytes; there = r .there ∙ (λ i. after (progress [] 1 (e i) (f i)) (r .bytes)) }
 
 pub on-start : {p : Progress} → ReadOn p p false 18446744073709551615
 unfolding after

@@ -7,6 +7,8 @@ use lib.Dec.{ltb}
 use lib.ListN.{length, take}
 use Rattle.verdict.specs.Codes.{codeCount}
 use Rattle.judge.specs.Outcome.{Outcome}
+use Rattle.table.specs.Rows.{Table}
+use Rattle.table.specs.Noted.{noted}
 
 -- the digits of a number that has at most f
 unfoldable pub digitsOf : ℕ → ℕ → List ℕ
@@ -33,7 +35,9 @@ answerTo number o = printed number (o .verdict .answer) (o .verdict .count) (o .
 abbrev pub longest : ℕ
 longest = 21 * (3 + codeCount)
 
--- The outcome of a line stands printed in the first n bytes of a buffer that has room for the longest, and its register is kept.
-pub record Answered (number : ℕ) (o : Outcome) (before after : List ℕ) (n : ℕ) (register : List ℕ) : Type 0 where
+-- The outcome of a line stands printed in the first n bytes of a buffer that has room for the longest, its register is kept, and the
+-- line is noted in the table.
+pub record Answered (number : ℕ) (line : List ℕ) (o : Outcome) (table : Table) (before after : List ℕ) (n : ℕ) (register : List ℕ) (table' : Table) : Type 0 where
   pub prints : longest ≤ length before → take n after ≡ answerTo number o
   pub keeps : register ≡ o .register
+  pub notes : table' ≡ noted table line (o .verdict)

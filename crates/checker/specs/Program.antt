@@ -1,10 +1,13 @@
 -- What the program writes for a whole input: line one is skipped, and for each other line its number, answer, n and codes are
--- printed. The register is empty at first, and each line is judged over the one that the line before it left.
+-- printed. The register is empty at first, and each line is judged over the one that the line before it left. Each of these lines is noted
+-- in the table of the day's summary.
 use Prim.Native.Nat.{ℕ, _+_}
 use mathlib.Core.List.{List, [], _∷_, _++_}
 use lib.ListN.{drop}
 use Rattle.verdict.specs.Codes.{codeCount}
 use Rattle.judge.specs.Outcome.{Outcome, outcome}
+use Rattle.table.specs.Rows.{Table}
+use Rattle.table.specs.Noted.{noted, emptyTable}
 use Rattle.checker.specs.Setting.{emptyRegister, called}
 use Rattle.checker.specs.Lines.{linesOf}
 use Rattle.checker.specs.Printed.{answerTo}
@@ -19,3 +22,10 @@ answers number register (line ∷ lines) =
 
 unfoldable pub programWrites : List ℕ → List ℕ
 programWrites input = answers 2 emptyRegister (drop 1 (linesOf input))
+
+unfoldable pub notes : List ℕ → Table → List (List ℕ) → Table
+notes register table [] = table
+notes register table (line ∷ lines) = notes (judged line register .register) (noted table line (judged line register .verdict)) lines
+
+unfoldable pub tableAfter : List ℕ → Table
+tableAfter input = notes emptyRegister emptyTable (drop 1 (linesOf input))

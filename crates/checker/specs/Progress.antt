@@ -7,33 +7,39 @@ use lib.Dec.{eqb, leb, ltb}
 use lib.IntN.{ℤ}
 use lib.ListN.{length, take}
 use Rattle.io.specs.Counts.{clamped}
+use Rattle.table.specs.Rows.{Table, tableIn}
+use Rattle.table.specs.Noted.{noted, emptyTable}
 use Rattle.checker.specs.Setting.{emptyRegister}
 use Rattle.checker.specs.Bare.{bare}
 use Rattle.checker.specs.Printed.{longest, answerTo}
 use Rattle.checker.specs.Program.{judged}
 
--- the bytes kept of the line that has begun, its number, and the register
+-- the bytes kept of the line that has begun, its number, the register, and the table of the summary
 pub record Progress : Type 0 where
   pub begun : List ℕ
   pub number : ℕ
   pub register : List ℕ
+  pub table : Table
 
-abbrev pub progress : List ℕ → ℕ → List ℕ → Progress
-progress begun number register = record { begun = begun; number = number; register = register }
+abbrev pub progress : List ℕ → ℕ → List ℕ → Table → Progress
+progress begun number register table = record { begun = begun; number = number; register = register; table = table }
 
--- by the program's buffers: the first bytes of one are kept
-abbrev pub held : List ℕ → ℕ → ℕ → List ℕ → Progress
-held line kept number register = progress (take kept line) number register
+-- by the program's buffers: the first bytes of one are kept, and rows are the table
+abbrev pub held : List ℕ → ℕ → ℕ → List ℕ → List (List ℕ) → List (List ℕ) → Progress
+held line kept number register names numbers = progress (take kept line) number register (tableIn names numbers)
 
 abbrev pub start : Progress
-start = progress [] 1 emptyRegister
+start = progress [] 1 emptyRegister emptyTable
 
--- what is written for a line of some number, and the register behind it: line one is skipped
+-- what is written for a line of some number, and the register and the table behind it: line one is skipped
 unfoldable pub told : ℕ → List ℕ → List ℕ → List ℕ
 told number line register = cond (leb number 1) [] (answerTo number (judged line register))
 
 unfoldable pub left : ℕ → List ℕ → List ℕ → List ℕ
 left number line register = cond (leb number 1) register (judged line register .register)
+
+unfoldable pub entered : ℕ → List ℕ → List ℕ → Table → Table
+entered number line register table = cond (leb number 1) table (noted table line (judged line register .verdict))
 
 -- of a line no more than 4,098 bytes are kept
 abbrev pub room : ℕ
@@ -44,10 +50,12 @@ abbrev pub raised : ℕ → ℕ
 raised number = min (number + 1) 18446744073709551615
 
 abbrev pub ended : Progress → Progress
-ended p = progress [] (raised (p .number)) (left (p .number) (bare (p .begun)) (p .register))
+ended p =
+    progress [] (raised (p .number)) (left (p .number) (bare (p .begun)) (p .register))
+    (entered (p .number) (bare (p .begun)) (p .register) (p .table))
 
 abbrev pub more : Progress → ℕ → Progress
-more p b = progress (take room (p .begun ++ (b ∷ []))) (p .number) (p .register)
+more p b = progress (take room (p .begun ++ (b ∷ []))) (p .number) (p .register) (p .table)
 
 -- one byte: LF ends the line
 abbrev pub step : Progress → ℕ → Progress
@@ -65,9 +73,12 @@ unfoldable pub writes : Progress → List ℕ → List ℕ
 writes p [] = []
 writes p (b ∷ s) = said p b ++ writes (step p b) s
 
--- what it writes at the end of the input, where a line may have begun
+-- what it writes at the end of the input, where a line may have begun, and the table then
 abbrev pub lastAnswer : Progress → List ℕ
 lastAnswer p = cond (ltb 0 (length (p .begun))) (told (p .number) (p .begun) (p .register)) []
+
+abbrev pub lastTable : Progress → Table
+lastTable p = cond (ltb 0 (length (p .begun))) (entered (p .number) (p .begun) (p .register) (p .table)) (p .table)
 
 -- all that is written for an input that comes in chunks, and at its end
 unfoldable pub writesAll : Progress → List (List ℕ) → List ℕ
@@ -83,10 +94,11 @@ lineEnd (b ∷ s) = cond (eqb b 10) 0 (suc (lineEnd s))
 abbrev pub upToEnd : List ℕ → ℕ
 upToEnd chunk = min (length chunk) (lineEnd chunk + 1)
 
--- What is written for a line stands in the first n bytes of a buffer that has room for the longest.
-pub record Told (number : ℕ) (line register before after : List ℕ) (n : ℕ) (register' : List ℕ) : Type 0 where
+-- What is written for a line stands in the first n bytes of a buffer that has room for the longest; register and table are those behind it.
+pub record Told (number : ℕ) (line register : List ℕ) (table : Table) (before after : List ℕ) (n : ℕ) (register' : List ℕ) (table' : Table) : Type 0 where
   pub prints : longest ≤ length before → take n after ≡ told number line register
   pub keeps : register' ≡ left number line register
+  pub notes : table' ≡ entered number line register table
 
 -- the room that a turn needs: for what is kept of a line, and for what is written
 pub record Roomy (line out : List ℕ) : Type 0 where
@@ -98,6 +110,11 @@ pub record Advanced (p : Progress) (chunk : List ℕ) (used : ℕ) (q : Progress
   pub takes : used ≡ upToEnd chunk
   pub stands : q ≡ after p (take used chunk)
   pub puts : put ≡ writes p (take used chunk)
+
+-- At the end of the input: what is put, and the table that is left.
+pub record Finished (p : Progress) (put : List ℕ) (table : Table) : Type 0 where
+  pub puts : put ≡ lastAnswer p
+  pub notes : table ≡ lastTable p
 
 -- Turns one after another, each on any chunk: the bytes taken, where the program stands behind them, and what was put, joined.
 pub data Run : List ℕ → Progress → List ℕ → Type 0 where

@@ -1,18 +1,23 @@
-// The program: judges standard input line by line over empty lists, and prints an answer for each line.
+// The program: judges standard input line by line over empty lists, and prints an answer for each line; with --summary the day's
+// summary by firm behind them.
 //
 // What is read and written no contract can say. What is handed to the write is proved, whatever chunks the input comes in:
 // `advance` takes a chunk up to the end of a line, `finish` the line that has begun where the input ends, and
-// proofs/Program.antt has the theorem over both. The functions below them call read and write, and carry on what these leave.
+// proofs/Program.antt has the theorem over both, with the summary's rows. The functions below them call read and write, and carry on
+// what these leave.
 ghost use mathlib.Core.Path.{_≡_};
 ghost use mathlib.Core.Bool.{true, false};
+ghost use Prim.Native.Nat.{_+_};
 ghost use lib.ListN.{length, take};
 ghost use Rattle.checker.specs.Setting.{emptyRegister};
 ghost use Rattle.checker.specs.Printed.{Answered};
 ghost use Rattle.checker.specs.Program.{judged};
-ghost use Rattle.checker.specs.Progress.{held, start, lastAnswer, room, raised, Told, Roomy, Advanced, Took, TookRead, Reached, ReadOn};
+ghost use Rattle.checker.specs.Progress.{held, start, room, raised, Told, Roomy, Advanced, Finished, Took, TookRead, Reached, ReadOn};
+ghost use Rattle.table.specs.Rows.{recordCount, tableIn, Rows};
 
 mod lines;
 mod print;
+mod report;
 
 use buffer::keep_all;
 use libc::STDERR_FILENO;
@@ -22,6 +27,9 @@ use lines::bare;
 use lines::line_end;
 use print::keep_answer;
 use print::listed;
+use report::keep_row;
+use table::ROW_COUNT;
+use table::WIDTH;
 use verdict::CODE_COUNT;
 
 // Mark TRN, version 1, no row used, room for 4 rows of 74 bytes.
@@ -36,9 +44,17 @@ fn empty_register() -> [u8; 305]
     register
 }
 
-// Judges a line and puts what is printed for it at the start of `out`.
-fn answer(line: &[u8], register: &mut [u8], number: u64, out: &mut [u8]) -> usize
-    ensures { λ r. ⌜ Answered number (judged (now (line .entry)) (now (register .entry))) (now (out .entry)) (now (out .exit)) r (now (register .exit)) ⌝ }
+// Judges a line, notes it in the table, and puts what is printed for it at the start of `out`.
+fn answer(
+    line: &[u8],
+    register: &mut [u8],
+    names: &mut [[u8; 20]],
+    numbers: &mut [[u32; WIDTH]],
+    number: u64,
+    out: &mut [u8],
+) -> usize
+    requires { ⌜ Rows (now names) (now numbers) ⌝ }
+    ensures { λ r. ⌜ Answered number (now (line .entry)) (judged (now (line .entry)) (now (register .entry))) (tableIn (now (names .entry)) (now (numbers .entry))) (now (out .entry)) (now (out .exit)) r (now (register .exit)) (tableIn (now (names .exit)) (now (numbers .exit))) ⌝ }
 {
     let mut findings = [0u16; CODE_COUNT];
     let verdict = judge::judge(
@@ -54,18 +70,27 @@ fn answer(line: &[u8], register: &mut [u8], number: u64, out: &mut [u8]) -> usiz
         false,
         &mut findings,
     );
+    table::note(names, numbers, line, verdict);
     let count = verdict.count;
     keep_answer(out, number, verdict.answer, count, listed(&findings, count))
 }
 
 // Line one is skipped.
-fn tell(line: &[u8], register: &mut [u8], number: u64, out: &mut [u8]) -> usize
-    ensures { λ r. ⌜ Told number (now (line .entry)) (now (register .entry)) (now (out .entry)) (now (out .exit)) r (now (register .exit)) ⌝ }
+fn tell(
+    line: &[u8],
+    register: &mut [u8],
+    names: &mut [[u8; 20]],
+    numbers: &mut [[u32; WIDTH]],
+    number: u64,
+    out: &mut [u8],
+) -> usize
+    requires { ⌜ Rows (now names) (now numbers) ⌝ }
+    ensures { λ r. ⌜ Told number (now (line .entry)) (now (register .entry)) (tableIn (now (names .entry)) (now (numbers .entry))) (now (out .entry)) (now (out .exit)) r (now (register .exit)) (tableIn (now (names .exit)) (now (numbers .exit))) ⌝ }
 {
     if number <= 1 {
         return 0;
     }
-    answer(line, register, number, out)
+    answer(line, register, names, numbers, number, out)
 }
 
 fn one_more(n: u64) -> u64
@@ -90,12 +115,15 @@ fn advance(
     chunk: &[u8],
     line: &mut [u8],
     register: &mut [u8],
+    names: &mut [[u8; 20]],
+    numbers: &mut [[u32; WIDTH]],
     kept: usize,
     number: u64,
     out: &mut [u8],
 ) -> Turn
     requires { ⌜ Roomy (now line) (now out) ⌝ }
-    ensures { λ r. ⌜ Advanced (held (now (line .entry)) kept number (now (register .entry))) (now (chunk .entry)) (r .used) (held (now (line .exit)) (r .kept) (r .number) (now (register .exit))) (take (r .written) (now (out .exit))) ⌝ }
+    requires { ⌜ Rows (now names) (now numbers) ⌝ }
+    ensures { λ r. ⌜ Advanced (held (now (line .entry)) kept number (now (register .entry)) (now (names .entry)) (now (numbers .entry))) (now (chunk .entry)) (r .used) (held (now (line .exit)) (r .kept) (r .number) (now (register .exit)) (now (names .exit)) (now (numbers .exit))) (take (r .written) (now (out .exit))) ⌝ }
 {
     let end = line_end(chunk);
     let begun = keep_all(line, kept, text::head(chunk, end));
@@ -107,7 +135,14 @@ fn advance(
             number,
         };
     }
-    let written = tell(bare(text::head(line, begun)), register, number, out);
+    let written = tell(
+        bare(text::head(line, begun)),
+        register,
+        names,
+        numbers,
+        number,
+        out,
+    );
     Turn {
         used: end + 1,
         written,
@@ -117,13 +152,23 @@ fn advance(
 }
 
 // At the end of the input: a last line without LF is a line. What is handed in is where some bytes have led from the start.
-fn finish(line: &[u8], register: &mut [u8], kept: usize, number: u64, out: &mut [u8]) -> usize
+fn finish(
+    line: &[u8],
+    register: &mut [u8],
+    names: &mut [[u8; 20]],
+    numbers: &mut [[u32; WIDTH]],
+    kept: usize,
+    number: u64,
+    out: &mut [u8],
+) -> usize
     requires { ⌜ Roomy (now line) (now out) ⌝ }
-    requires { ⌜ Reached start (held (now line) kept number (now register)) ⌝ }
-    ensures { λ r. ⌜ take r (now (out .exit)) ≡ lastAnswer (held (now (line .entry)) kept number (now (register .entry))) ⌝ }
+    requires { ⌜ Rows (now names) (now numbers) ⌝ }
+    requires { ⌜ Reached start (held (now line) kept number (now register) (now names) (now numbers)) ⌝ }
+    ensures { λ r. ⌜ Finished (held (now (line .entry)) kept number (now (register .entry)) (now (names .entry)) (now (numbers .entry))) (take r (now (out .exit))) (tableIn (now (names .exit)) (now (numbers .exit))) ⌝ }
 {
     if 0 < kept {
-        return tell(text::head(line, kept), register, number, out);
+        let last = text::head(line, kept);
+        return tell(last, register, names, numbers, number, out);
     }
     0
 }
@@ -150,26 +195,29 @@ fn broken_off(number: u64, message: &[u8]) -> Place
     }
 }
 
-// Its number, the answer, n and the codes, of up to 20 digits each and all but the first behind a space, and LF: no answer is longer.
+// Its number, the answer, n and the codes, of up to 20 digits each and all but the first behind a space, and LF: no answer is longer, and no
+// line of the summary.
 const LONGEST: usize = 21 * (3 + CODE_COUNT);
 
-fn take_chunk(chunk: &[u8], line: &mut [u8], register: &mut [u8], place: Place) -> Place
+fn take_chunk(
+    chunk: &[u8],
+    line: &mut [u8],
+    register: &mut [u8],
+    names: &mut [[u8; 20]],
+    numbers: &mut [[u32; WIDTH]],
+    place: Place,
+) -> Place
     requires { ⌜ length (now line) ≡ room ⌝ }
-    ensures { λ r. ⌜ Took (held (now (line .entry)) (place .kept) (place .number) (now (register .entry))) (now (chunk .entry)) (held (now (line .exit)) (r .kept) (r .number) (now (register .exit))) (r .ended) (r .failed) ⌝ }
+    requires { ⌜ Rows (now names) (now numbers) ⌝ }
+    ensures { λ r. ⌜ Took (held (now (line .entry)) (place .kept) (place .number) (now (register .entry)) (now (names .entry)) (now (numbers .entry))) (now (chunk .entry)) (held (now (line .exit)) (r .kept) (r .number) (now (register .exit)) (now (names .exit)) (now (numbers .exit))) (r .ended) (r .failed) ⌝ }
 {
     let mut out = [0u8; LONGEST];
     let mut kept = place.kept;
     let mut number = place.number;
     let mut at = 0;
     while at < chunk.len() {
-        let turn = advance(
-            text::rest(chunk, at),
-            line,
-            register,
-            kept,
-            number,
-            &mut out,
-        );
+        let left = text::rest(chunk, at);
+        let turn = advance(left, line, register, names, numbers, kept, number, &mut out);
         if !io::write_all(STDOUT_FILENO, text::head(&out, turn.written)) {
             return broken_off(number, b"checker: an answer could not be written\n");
         }
@@ -186,9 +234,18 @@ fn take_chunk(chunk: &[u8], line: &mut [u8], register: &mut [u8], place: Place) 
 }
 
 // Takes what a read that answered `got` put into the chunk.
-fn take_read(got: isize, chunk: &[u8], line: &mut [u8], register: &mut [u8], place: Place) -> Place
+fn take_read(
+    got: isize,
+    chunk: &[u8],
+    line: &mut [u8],
+    register: &mut [u8],
+    names: &mut [[u8; 20]],
+    numbers: &mut [[u32; WIDTH]],
+    place: Place,
+) -> Place
     requires { ⌜ length (now line) ≡ room ⌝ }
-    ensures { λ r. ⌜ TookRead got (now (chunk .entry)) (held (now (line .entry)) (place .kept) (place .number) (now (register .entry))) (held (now (line .exit)) (r .kept) (r .number) (now (register .exit))) (r .ended) (r .failed) ⌝ }
+    requires { ⌜ Rows (now names) (now numbers) ⌝ }
+    ensures { λ r. ⌜ TookRead got (now (chunk .entry)) (held (now (line .entry)) (place .kept) (place .number) (now (register .entry)) (now (names .entry)) (now (numbers .entry))) (held (now (line .exit)) (r .kept) (r .number) (now (register .exit)) (now (names .exit)) (now (numbers .exit))) (r .ended) (r .failed) ⌝ }
 {
     if got < 0 {
         return broken_off(place.number, b"checker: the input could not be read\n");
@@ -202,13 +259,19 @@ fn take_read(got: isize, chunk: &[u8], line: &mut [u8], register: &mut [u8], pla
             failed: false,
         };
     }
-    take_chunk(text::head(chunk, n), line, register, place)
+    take_chunk(text::head(chunk, n), line, register, names, numbers, place)
 }
 
 // Nothing says that the input ends, so the loop counts its turns down, from a number that no run uses up.
-fn read_all(line: &mut [u8], register: &mut [u8]) -> Place
+fn read_all(
+    line: &mut [u8],
+    register: &mut [u8],
+    names: &mut [[u8; 20]],
+    numbers: &mut [[u32; WIDTH]],
+) -> Place
     requires { ⌜ length (now line) ≡ room ⌝ }
-    ensures { λ r. ⌜ (r .failed ≡ false → ReadOn (held (now (line .entry)) 0 1 (now (register .entry))) (held (now (line .exit)) (r .kept) (r .number) (now (register .exit))) (r .ended) 0) ⌝ }
+    requires { ⌜ Rows (now names) (now numbers) ⌝ }
+    ensures { λ r. ⌜ (r .failed ≡ false → ReadOn (held (now (line .entry)) 0 1 (now (register .entry)) (now (names .entry)) (now (numbers .entry))) (held (now (line .exit)) (r .kept) (r .number) (now (register .exit)) (now (names .exit)) (now (numbers .exit))) (r .ended) 0) ⌝ }
 {
     let mut chunk = io::large_buffer();
     let mut place = Place {
@@ -220,10 +283,41 @@ fn read_all(line: &mut [u8], register: &mut [u8]) -> Place
     let mut turns = u64::MAX;
     while turns > 0 && !place.ended && !place.failed {
         let got = libc::read(STDIN_FILENO, &mut chunk);
-        place = take_read(got, &chunk, line, register, place);
+        place = take_read(got, &chunk, line, register, names, numbers, place);
         turns -= 1;
     }
     place
+}
+
+// Whether the first argument asks for the summary.
+fn asks_summary() -> bool {
+    let mut word = [0u8; 16];
+    let n = os::arg(1, &mut word);
+    text::same(text::head(&word, n), b"--summary")
+}
+
+// How many rows of the table the summary was put of, and whether a write failed.
+struct Written {
+    rows: usize,
+    failed: bool,
+}
+
+fn write_summary(names: &[[u8; 20]], numbers: &[[u32; WIDTH]]) -> Written
+    requires { ⌜ Rows (now names) (now numbers) ⌝ }
+    ensures { λ r. ⌜ (r .failed ≡ false → r .rows ≡ recordCount + 1) ⌝ }
+{
+    let mut out = [0u8; LONGEST];
+    let mut well = io::write_all(STDOUT_FILENO, b"summary\n");
+    let mut i = 0;
+    while i < ROW_COUNT && well {
+        let n = keep_row(&mut out, names, numbers, i);
+        well = io::write_all(STDOUT_FILENO, text::head(&out, n));
+        i += 1;
+    }
+    Written {
+        rows: i,
+        failed: !well,
+    }
 }
 
 // A line of at most 4,097 bytes, a CR of its end among them, is kept whole. A longer one is refused for its length, and so
@@ -231,12 +325,29 @@ fn read_all(line: &mut [u8], register: &mut [u8]) -> Place
 fn main() {
     let mut line = [0u8; 4098];
     let mut register = empty_register();
-    let place = read_all(&mut line, &mut register);
-    if !place.failed {
-        let mut out = [0u8; LONGEST];
-        let n = finish(&line, &mut register, place.kept, place.number, &mut out);
-        if !io::write_all(STDOUT_FILENO, text::head(&out, n)) {
-            broken_off(place.number, b"checker: an answer could not be written\n");
+    let mut names = [[0u8; 20]; ROW_COUNT];
+    let mut numbers = [[0u32; WIDTH]; ROW_COUNT];
+    let place = read_all(&mut line, &mut register, &mut names, &mut numbers);
+    if place.failed {
+        return;
+    }
+    let mut out = [0u8; LONGEST];
+    let n = finish(
+        &line,
+        &mut register,
+        &mut names,
+        &mut numbers,
+        place.kept,
+        place.number,
+        &mut out,
+    );
+    if !io::write_all(STDOUT_FILENO, text::head(&out, n)) {
+        broken_off(place.number, b"checker: an answer could not be written\n");
+        return;
+    }
+    if asks_summary() {
+        if write_summary(&names, &numbers).failed {
+            broken_off(place.number, b"checker: the summary could not be written\n");
         }
     }
 }

@@ -7,13 +7,13 @@ ghost use Rattle.checker.specs.Printed.{decimal, spaced, printed};
 use buffer::keep;
 use buffer::keep_all;
 
-fn wide(x: u16) -> u64
+pub fn wide(x: u16) -> u64
     ensures { λ r. ⌜ r ≡ x ⌝ }
 {
     x as u64
 }
 
-fn keep_number(out: &mut [u8], kept: usize, n: u64) -> usize
+pub fn keep_number(out: &mut [u8], kept: usize, n: u64) -> usize
     ensures { λ r. ⌜ Kept (now (out .entry)) kept (decimal n) (now (out .exit)) r ⌝ }
 {
     let mut digits = [0u8; 20];
@@ -21,11 +21,11 @@ fn keep_number(out: &mut [u8], kept: usize, n: u64) -> usize
     keep_all(out, kept, &digits[..k])
 }
 
-fn keep_spaced(out: &mut [u8], kept: usize, n: u16) -> usize
+pub fn keep_spaced(out: &mut [u8], kept: usize, n: u64) -> usize
     ensures { λ r. ⌜ Kept (now (out .entry)) kept (spaced (n ∷ [])) (now (out .exit)) r ⌝ }
 {
     let begun = keep(out, kept, b' ');
-    keep_number(out, begun, wide(n))
+    keep_number(out, begun, n)
 }
 
 fn keep_codes(out: &mut [u8], kept: usize, codes: &[u16]) -> usize
@@ -34,7 +34,7 @@ fn keep_codes(out: &mut [u8], kept: usize, codes: &[u16]) -> usize
     let mut n = kept;
     let mut i = 0;
     while i < codes.len() {
-        n = keep_spaced(out, n, codes[i]);
+        n = keep_spaced(out, n, wide(codes[i]));
         i += 1;
     }
     n
@@ -55,8 +55,8 @@ pub fn keep_answer(out: &mut [u8], number: u64, answer: u16, count: u16, codes: 
     ensures { λ r. ⌜ Kept (now (out .entry)) 0 (printed number answer count (now (codes .entry))) (now (out .exit)) r ⌝ }
 {
     let numbered = keep_number(out, 0, number);
-    let answered = keep_spaced(out, numbered, answer);
-    let counted = keep_spaced(out, answered, count);
+    let answered = keep_spaced(out, numbered, wide(answer));
+    let counted = keep_spaced(out, answered, wide(count));
     let coded = keep_codes(out, counted, codes);
     keep(out, coded, b'\n')
 }

@@ -2,6 +2,7 @@ use Rattle.checker.proofs.read_all.Statement.{statement}
 use Rattle.checker.proofs.read_all.Tie as tie
 use Rattle.checker.proofs.ProgressLaws.{on-start, on-more, on-done, on-ended}
 use Rattle.checker.specs.Progress.{held, room, ReadOn}
+use Rattle.table.specs.Rows.{Rows}
 use mathlib.Core.Path.{_≡_, _∙_, refl, sym}
 use mathlib.Core.Bool.{false, true≢false}
 use lib.ListN.{length}
@@ -10,18 +11,18 @@ use borrow.Author.Needs.{needs}
 use native.Mathlib.Omega.{arith}
 
 abbrev Inv-loop : tie.InvT-loop
-Inv-loop line₀ register₀ chunk₀ place₀ turns₀ line register chunk place turns =
-    (place .failed ≡ false → ReadOn (held line₀ 0 1 register₀) (held line (place .kept) (place .number) register) (place .ended) turns)
-    × ((length line ≡ room) × ((length register ≡ length register₀) × (length chunk ≡ length chunk₀)))
+Inv-loop line₀ register₀ names₀ numbers₀ chunk₀ place₀ turns₀ line register names numbers chunk place turns =
+    (place .failed ≡ false → ReadOn (held line₀ 0 1 register₀ names₀ numbers₀) (held line (place .kept) (place .number) register names numbers) (place .ended) turns)
+    × (length line ≡ room) × (length register ≡ length register₀) × Rows names numbers × (length chunk ≡ length chunk₀)
 
 abbrev μ-loop : tie.MeasureT-loop
-μ-loop line₀ register₀ chunk₀ place₀ turns₀ line register chunk place turns = turns
+μ-loop line₀ register₀ names₀ numbers₀ chunk₀ place₀ turns₀ line register names numbers chunk place turns = turns
 
 loop-holds : tie.Need-loop-holds Inv-loop μ-loop
-loop-holds c = (λ f. on-start, ((c .before .before .before .pre), (refl, refl)))
+loop-holds c = (λ f. on-start, (c .before .before .before .pre) .0, refl, (c .before .before .before .pre) .1, refl)
 
 loop-again : tie.Need-loop-again Inv-loop μ-loop
-loop-again c = (λ f. on-more ((c .before .before .before .before .before .before .before .before .before .before .before .before .before .before .before .before .loop) .inv .0 (not-true _ ((c .before .before .before .before .before .before .before .before .before .before .before .if2) .taken))) ((c .before .before .before .before .before .before .before .before .before .before .before .before .before .before .before .loop-test) .taken) (not-true _ ((c .before .before .before .before .before .before .before .before .before .before .before .before .before .if1) .taken)) f ((c .before .before .before .before .take-read) .ensures), (search needs, (search needs, search needs)))
+loop-again c = (λ f. on-more ((c .before .before .before .before .before .before .before .before .before .before .before .before .before .before .before .before .before .before .before .before .loop) .inv .0 (not-true _ ((c .before .before .before .before .before .before .before .before .before .before .before .before .before .before .before .if2) .taken))) ((c .before .before .before .before .before .before .before .before .before .before .before .before .before .before .before .before .before .before .before .loop-test) .taken) (not-true _ ((c .before .before .before .before .before .before .before .before .before .before .before .before .before .before .before .before .before .if1) .taken)) f ((c .before .before .before .before .before .before .take-read) .ensures), search needs, search needs, search needs, search needs)
 
 returns : tie.Need-returns Inv-loop μ-loop
 returns c = λ f. absurd (true≢false (sym (not-false _ ((c .if2) .left)) ∙ f))
@@ -49,10 +50,16 @@ read-all-spec =
     loop-again
     (λ c. search needs)
     (λ c. search needs)
+    (λ c. search needs)
+    (λ c. search needs)
     returns
     (λ c. search needs)
     (λ c. search needs)
+    (λ c. search needs)
+    (λ c. search needs)
     returns-2
+    (λ c. search needs)
+    (λ c. search needs)
     (λ c. search needs)
     (λ c. search needs)
     returns-3)

@@ -12,10 +12,10 @@ returns : tie.Need-returns
 returns c = read-failed ((c .broken-off) .ensures .1)
 
 returns-2 : tie.Need-returns-2
-returns-2 c = read-none ((c .before .before .before .before .before .before .args) .got) ((c .before .before .before .before .before .before .args) .chunk .now) ((c .before .count) .ensures .0) ((c .before .count) .ensures .1 ∙ ap (λ (z : ℤ). clamped z (length (c .before .before .before .before .before .before .args .chunk .now))) (toZ-ofZ (c .before .before .before .before .before .before .fits .got))) ((c .if2) .taken)
+returns-2 c = read-none ((c .before .before .before .before .before .before .args) .got) ((c .before .before .before .before .before .before .args) .chunk .now) ((c .before .count) .ensures .0) ((c .before .count) .ensures .1 ∙ ap (λ (z : ℤ). clamped z (length ((c .before .before .before .before .before .before .args) .chunk .now))) (toZ-ofZ ((c .before .before .before .before .before .before .fits) .got))) ((c .if2) .taken)
 
 returns-3 : tie.Need-returns-3
-returns-3 c = read-more ((c .before .before .before .before .before .before .before .before .before .before .before .before .before .before .args) .got) ((c .before .before .before .before .before .before .before .before .before .before .before .before .before .before .args) .chunk .now) ((c .before .before .before .before .before .before .before .before .before .count) .ensures .0) ((c .before .before .before .before .before .before .before .before .before .count) .ensures .1 ∙ ap (λ (z : ℤ). clamped z (length (c .before .before .before .before .before .before .before .before .before .before .before .before .before .before .args .chunk .now))) (toZ-ofZ (c .before .before .before .before .before .before .before .before .before .before .before .before .before .before .fits .got))) ((c .before .before .before .before .before .before .before .before .if2) .left) (rw ((c .before .before .before .before .before .before .before .head) .ensures) at ((c .before .before .before .before .take-chunk) .ensures))
+returns-3 c = read-more ((c .before .before .before .before .before .before .before .before .before .before .before .before .before .before .before .before .before .before .args) .got) ((c .before .before .before .before .before .before .before .before .before .before .before .before .before .before .before .before .before .before .args) .chunk .now) ((c .before .before .before .before .before .before .before .before .before .before .before .before .before .count) .ensures .0) ((c .before .before .before .before .before .before .before .before .before .before .before .before .before .count) .ensures .1 ∙ ap (λ (z : ℤ). clamped z (length ((c .before .before .before .before .before .before .before .before .before .before .before .before .before .before .before .before .before .before .args) .chunk .now))) (toZ-ofZ ((c .before .before .before .before .before .before .before .before .before .before .before .before .before .before .before .before .before .before .fits) .got))) ((c .before .before .before .before .before .before .before .before .before .before .before .before .if2) .left) (rw ((c .before .before .before .before .before .before .before .before .before .before .before .head) .ensures) at ((c .before .before .before .before .before .before .take-chunk) .ensures))
 
 pub take-read-spec : {M : Type 1} → statement M
 take-read-spec =
@@ -28,6 +28,8 @@ take-read-spec =
     returns-2
     (λ c κs. search needs)
     (λ c κs. search needs)
+    (λ c. search needs)
+    (λ c. search needs)
     (λ c. search needs)
     (λ c. search needs)
     returns-3)

@@ -8,7 +8,7 @@ returns : tie.Need-returns
 returns c = told-none (omega arith)
 
 returns-2 : tie.Need-returns-2
-returns-2 c = told-one (omega arith) ((c .before .before .before .before .answer) .ensures)
+returns-2 c = told-one (omega arith) ((c .before .before .before .before .before .before .answer) .ensures)
 
 pub tell-spec : {M : Type 1} → statement M
-tell-spec = tie.close (tie.spec returns (λ c κs. search needs) (λ c. search needs) (λ c. search needs) returns-2)
+tell-spec = tie.close (tie.spec returns (λ c κs. search needs) (λ c. search needs) (λ c. search needs) (λ c. search needs) (λ c. search needs) returns-2)

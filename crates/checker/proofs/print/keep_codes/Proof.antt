@@ -18,13 +18,13 @@ loop-holds : tie.Need-loop-holds Inv-loop μ-loop
 loop-holds c = so-far-start spaced-join
 
 loop-again : tie.Need-loop-again Inv-loop μ-loop
-loop-again c = so-far-on spaced-join (c .before .before .before .before .before .before .loop .inv) (omega arith) (c .before .before .keep-spaced .ensures)
+loop-again c = so-far-on spaced-join ((c .before .before .before .before .before .before .before .loop) .inv) (omega arith) (rw ((c .before .before .before .wide) .ensures) at ((c .before .before .keep-spaced) .ensures))
 
 same-length : tie.Need-same-length Inv-loop μ-loop
-same-length c = keep-room (c .before .loop .inv .so-far)
+same-length c = keep-room ((c .before .loop) .inv .so-far)
 
 returns : tie.Need-returns Inv-loop μ-loop
-returns c = so-far-end spaced-join (c .before .loop .inv) (omega arith)
+returns c = so-far-end spaced-join ((c .before .loop) .inv) (omega arith)
 
 pub keep-codes-spec : {M : Type 1} → statement M
 keep-codes-spec =
@@ -35,6 +35,7 @@ keep-codes-spec =
     loop-holds
     (λ c. omega arith)
     (λ c. omega arith)
+    (λ c κs. search needs)
     (λ c κs. search needs)
     (λ c. omega arith)
     (λ c. omega arith)

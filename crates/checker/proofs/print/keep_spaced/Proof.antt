@@ -4,13 +4,12 @@ use Rattle.checker.proofs.DecimalLaws.{spaced-one}
 use borrow.Author.Needs.{needs}
 
 returns : tie.Need-returns
-returns c = spaced-one (c .before .before .before .before .before .before .before .before .before .before .args .n) (c .before .before .before .before .before .before .before .keep .ensures) (rw (c .before .before .before .wide .ensures) at (c .before .before .keep-number .ensures))
+returns c = spaced-one ((c .before .before .before .before .before .before .before .before .before .args) .n) ((c .before .before .before .before .before .before .keep) .ensures) ((c .before .before .keep-number) .ensures)
 
 pub keep-spaced-spec : {M : Type 1} → statement M
 keep-spaced-spec =
     tie.close
     (tie.spec
-    (λ c κs. search needs)
     (λ c κs. search needs)
     (λ c κs. search needs)
     (λ c. search needs)
