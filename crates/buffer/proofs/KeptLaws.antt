@@ -9,6 +9,7 @@ use lib.ListN.{length, take, drop, getD, set, length-append, length-take, length
 use lib.Seq.{take-all, take-suc, take-at, take-append-seam, drop-append-add, drop-drop, set-split, append-snoc}
 use borrow.Author.Tests.{leb-true, leb-false}
 use Rattle.text.proofs.Bools.{by-test}
+use Rattle.text.proofs.Determined.{same-both}
 use Rattle.buffer.specs.Kept.{Kept}
 
 pub keep-in : (buffer : List ℕ) (kept b : ℕ) → kept < length buffer → Kept buffer kept (b ∷ []) (set buffer kept b) (kept + 1)
@@ -121,3 +122,7 @@ module _ {f : List ℕ → List ℕ} (j : Joins f) {xs before : List ℕ} {kept 
 
     pub so-far-end : length xs ≤ i → Kept before kept (f xs) buffer n
     so-far-end h = rw (take-all i xs h) at (p .so-far)
+
+-- two results of one keeping coincide
+pub kept-once : {before more after after' : List ℕ} {kept n n' : ℕ} → Kept before kept more after n → Kept before kept more after' n' → (n ≡ n') × (after ≡ after')
+kept-once p q = (same-both (p .counts) (q .counts), same-both (p .holds) (q .holds))

@@ -5,15 +5,11 @@ use Prim.Native.Nat.{ℕ}
 use contract.Lifetimes.{Lfts}
 use denote.Triple.Clauses.{AtExit}
 use borrow.Fn.Kinds.{Dens, resT, endedOf}
-use Rattle.text.proofs.Determined.{same-both}
-use Rattle.buffer.specs.Kept.{Kept}
+use Rattle.buffer.proofs.KeptLaws.{kept-once}
 use Rattle.buffer.proofs.keep.Kinds as keep-kinds
 use Rattle.buffer.proofs.keep.Reads as keep-reads
 use Rattle.buffer.proofs.keep_all.Kinds as keep-all-kinds
 use Rattle.buffer.proofs.keep_all.Reads as keep-all-reads
-
-kept-once : {before more after after' : List ℕ} {kept n n' : ℕ} → Kept before kept more after n → Kept before kept more after' n' → (n ≡ n') × (after ≡ after')
-kept-once p q = (same-both (p .counts) (q .counts), same-both (p .holds) (q .holds))
 
 pub keep-determined :
     (κs : Lfts 1) (a : Dens κs keep-kinds.ps) (x y : resT keep-kinds.r κs .Denot) (s t : AtExit (endedOf 1 keep-kinds.ps keep-kinds.r) κs)

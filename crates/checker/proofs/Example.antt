@@ -35,9 +35,9 @@ use Rattle.judge.specs.Outcome.{outcome}
 use Rattle.judge.specs.Refusal.{clean, noRoom, refusal}
 use Rattle.checker.specs.Bare.{bare}
 use Rattle.checker.specs.Lines.{unended, linesFrom}
-use Rattle.checker.specs.Printed.{digitsOf as digitsOf-printed, spaced, printed}
+use Rattle.printing.specs.Printed.{digitsOf as digitsOf-printed, spaced, printed}
 use Rattle.checker.specs.Program.{judged, answers, programWrites, notes, tableAfter}
-use Rattle.checker.specs.Report.{countText, countTexts, recordText, firmText, firmTexts, summaryText}
+use Rattle.printing.specs.Report.{countText, countTexts, recordText, firmText, firmTexts, summaryText}
 
 -- E = 00000000000000000098
 abbrev example : List ℕ

@@ -20,20 +20,20 @@ use Rattle.table.proofs.NoteLaws.{record-count}
 use Rattle.checker.specs.Setting.{emptyRegister}
 use Rattle.checker.specs.Bare.{bare}
 use Rattle.checker.specs.Lines.{unended, linesFrom}
-use Rattle.checker.specs.Printed.{answerTo, longest}
-use Rattle.checker.specs.Program.{judged, answers, programWrites, tableAfter}
+use Rattle.printing.specs.Printed.{longest}
+use Rattle.checker.specs.Program.{answerTo, judged, answers, programWrites, tableAfter, programReports}
 use Rattle.checker.specs.Progress.{Progress, progress, held, start, told, left, entered, room, raised, ended, more, after, writes, lastAnswer, lastTable, writesAll, Finished, Run, begins, turn}
-use Rattle.checker.specs.Report.{summaryText, programReports, Reporting, row}
+use Rattle.printing.specs.Report.{summaryText, Reporting, row}
 use Rattle.checker.proofs.ProgressLaws.{after-append, writes-append}
 use Rattle.checker.proofs.Enough.{kept-ended, kept-last}
-use Rattle.checker.proofs.RowLaws.{reported}
+use Rattle.printing.proofs.RowLaws.{reported}
 use Rattle.checker.proofs.TableLaws.{input-noted}
 use Rattle.checker.proofs.advance.Kinds as advance-kinds
 use Rattle.checker.proofs.advance.Reads as advance-reads
 use Rattle.checker.proofs.finish.Kinds as finish-kinds
 use Rattle.checker.proofs.finish.Reads as finish-reads
-use Rattle.checker.proofs.report.keep_row.Kinds as keep-row-kinds
-use Rattle.checker.proofs.report.keep_row.Reads as keep-row-reads
+use Rattle.printing.proofs.keep_row.Kinds as keep-row-kinds
+use Rattle.printing.proofs.keep_row.Reads as keep-row-reads
 
 -- the answers to the lines from a number on, of which line one has none
 abbrev behind : ℕ → List ℕ → List (List ℕ) → List ℕ

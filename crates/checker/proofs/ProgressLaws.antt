@@ -17,9 +17,8 @@ use Rattle.buffer.specs.Kept.{Kept}
 use Rattle.buffer.proofs.KeptLaws.{keep-front, take-again}
 use Rattle.checker.specs.Setting.{emptyRegister}
 use Rattle.checker.specs.Bare.{bare}
-use Rattle.checker.specs.Printed.{Answered}
 use Rattle.checker.specs.Program.{judged}
-use Rattle.checker.specs.Progress.{Progress, progress, start, told, left, entered, room, raised, ended, more, step, said, after, writes, lineEnd, Told, Roomy, Advanced, Finished, Took, readIn, TookRead, Reached, ReadOn}
+use Rattle.checker.specs.Progress.{Progress, progress, start, told, left, entered, room, raised, ended, more, step, said, after, writes, lineEnd, Answered, Told, Roomy, Advanced, Finished, Took, readIn, TookRead, Reached, ReadOn}
 use Rattle.checker.proofs.LineEndLaws.{end-now, end-next, end-within, with-end}
 
 pub after-append : (p : Progress) (s t : List ℕ) → after p (s ++ t) ≡ after (after p s) t

@@ -10,7 +10,12 @@ use Rattle.table.specs.Rows.{Table}
 use Rattle.table.specs.Noted.{noted, emptyTable}
 use Rattle.checker.specs.Setting.{emptyRegister, called}
 use Rattle.checker.specs.Lines.{linesOf}
-use Rattle.checker.specs.Printed.{answerTo}
+use Rattle.printing.specs.Printed.{printed}
+use Rattle.printing.specs.Report.{summaryText}
+
+-- what is printed for an outcome
+abbrev pub answerTo : ℕ → Outcome → List ℕ
+answerTo number o = printed number (o .verdict .answer) (o .verdict .count) (o .listed)
 
 unfoldable pub judged : List ℕ → List ℕ → Outcome
 judged line register = outcome (called line register) codeCount
@@ -29,3 +34,7 @@ notes register table (line ∷ lines) = notes (judged line register .register) (
 
 unfoldable pub tableAfter : List ℕ → Table
 tableAfter input = notes emptyRegister emptyTable (drop 1 (linesOf input))
+
+-- all that is written where the summary is asked for
+abbrev pub programReports : List ℕ → List ℕ
+programReports input = programWrites input ++ summaryText (tableAfter input)

@@ -11,8 +11,9 @@ use Rattle.table.specs.Rows.{Table, tableIn}
 use Rattle.table.specs.Noted.{noted, emptyTable}
 use Rattle.checker.specs.Setting.{emptyRegister}
 use Rattle.checker.specs.Bare.{bare}
-use Rattle.checker.specs.Printed.{longest, answerTo}
-use Rattle.checker.specs.Program.{judged}
+use Rattle.judge.specs.Outcome.{Outcome}
+use Rattle.printing.specs.Printed.{longest}
+use Rattle.checker.specs.Program.{answerTo, judged}
 
 -- the bytes kept of the line that has begun, its number, the register, and the table of the summary
 pub record Progress : Type 0 where
@@ -93,6 +94,13 @@ lineEnd (b ∷ s) = cond (eqb b 10) 0 (suc (lineEnd s))
 -- up to the first LF and with it, or all
 abbrev pub upToEnd : List ℕ → ℕ
 upToEnd chunk = min (length chunk) (lineEnd chunk + 1)
+
+-- The outcome of a line stands printed in the first n bytes of a buffer that has room for the longest, its register is kept, and the
+-- line is noted in the table.
+pub record Answered (number : ℕ) (line : List ℕ) (o : Outcome) (table : Table) (before after : List ℕ) (n : ℕ) (register : List ℕ) (table' : Table) : Type 0 where
+  pub prints : longest ≤ length before → take n after ≡ answerTo number o
+  pub keeps : register ≡ o .register
+  pub notes : table' ≡ noted table line (o .verdict)
 
 -- What is written for a line stands in the first n bytes of a buffer that has room for the longest; register and table are those behind it.
 pub record Told (number : ℕ) (line register : List ℕ) (table : Table) (before after : List ℕ) (n : ℕ) (register' : List ℕ) (table' : Table) : Type 0 where

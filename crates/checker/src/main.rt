@@ -10,14 +10,11 @@ ghost use mathlib.Core.Bool.{true, false};
 ghost use Prim.Native.Nat.{_+_};
 ghost use lib.ListN.{length, take};
 ghost use Rattle.checker.specs.Setting.{emptyRegister};
-ghost use Rattle.checker.specs.Printed.{Answered};
 ghost use Rattle.checker.specs.Program.{judged};
-ghost use Rattle.checker.specs.Progress.{held, start, room, raised, Told, Roomy, Advanced, Finished, Took, TookRead, Reached, ReadOn};
+ghost use Rattle.checker.specs.Progress.{Answered, held, start, room, raised, Told, Roomy, Advanced, Finished, Took, TookRead, Reached, ReadOn};
 ghost use Rattle.table.specs.Rows.{recordCount, tableIn, Rows};
 
 mod lines;
-mod print;
-mod report;
 
 use buffer::keep_all;
 use libc::STDERR_FILENO;
@@ -25,9 +22,9 @@ use libc::STDIN_FILENO;
 use libc::STDOUT_FILENO;
 use lines::bare;
 use lines::line_end;
-use print::keep_answer;
-use print::listed;
-use report::keep_row;
+use printing::keep_answer;
+use printing::keep_row;
+use printing::listed;
 use table::ROW_COUNT;
 use table::WIDTH;
 use verdict::CODE_COUNT;

@@ -2,7 +2,7 @@ use Rattle.checker.proofs.take_chunk.Statement.{statement}
 use Rattle.checker.proofs.take_chunk.Tie as tie
 use Rattle.checker.proofs.ProgressLaws.{TakenSoFar, taken-start, taken-on, taken-less, taken-all, taken-failed}
 use Rattle.checker.specs.Progress.{held, room}
-use Rattle.checker.specs.Printed.{longest}
+use Rattle.printing.specs.Printed.{longest}
 use Rattle.table.specs.Rows.{Rows}
 use mathlib.Core.Path.{_≡_, refl}
 use lib.ListN.{length}

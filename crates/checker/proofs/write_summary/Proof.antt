@@ -1,6 +1,6 @@
 use Rattle.checker.proofs.write_summary.Statement.{statement}
 use Rattle.checker.proofs.write_summary.Tie as tie
-use Rattle.checker.specs.Printed.{longest}
+use Rattle.printing.specs.Printed.{longest}
 use mathlib.Core.Path.{_≡_, _∙_, refl, sym}
 use mathlib.Core.Bool.{true≢false}
 use mathlib.Core.Logic.{⊎-elim}
