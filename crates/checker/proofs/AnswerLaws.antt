@@ -1,7 +1,7 @@
 -- What is printed and noted for a line is its outcome.
 use mathlib.Core.Path.{_≡_, _∙_, refl, ap}
 use mathlib.Core.Bool.{Bool, true, false, cond}
-use mathlib.Core.List.{List, [], _∷_, _++_, append-assoc}
+use mathlib.Core.List.{List}
 use Prim.Native.Nat.{ℕ, _≤_}
 use native.Mathlib.Omega.{arith}
 use lib.ListN.{length, take}
@@ -19,7 +19,7 @@ use Rattle.judge.specs.Outcome.{Outcome, outcome, Judged, judgedOutcome, refuse
 use Rattle.table.specs.Rows.{Table}
 use Rattle.table.specs.Noted.{noted}
 use Rattle.buffer.specs.Kept.{Kept}
-use Rattle.buffer.proofs.KeptLaws.{keep-front, keep-then}
+use Rattle.buffer.proofs.KeptLaws.{keep-front}
 use Rattle.printing.specs.Printed.{printed}
 use Rattle.printing.proofs.DecimalLaws.{printed-short}
 use Rattle.checker.specs.Progress.{Answered}

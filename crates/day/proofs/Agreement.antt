@@ -2,10 +2,10 @@
 use mathlib.Core.Path.{_≡_, refl, sym, ap, _∙_}
 use mathlib.Core.Bool.{Bool, true, false, cond, not, _&&_, _||_, true≢false}
 use mathlib.Core.List.{List, [], _∷_}
-use Prim.Native.Nat.{ℕ, zero, suc, _+_, _<_}
+use Prim.Native.Nat.{ℕ, zero, suc, _<_}
 use native.Mathlib.Omega.{arith}
-use borrow.Author.Tests.{eq-eqb, ne-eqb, eqb-true, eqb-false, not-true}
-use lib.Dec.{eqb, lit<}
+use borrow.Author.Tests.{eq-eqb, ne-eqb, eqb-true, not-true}
+use lib.Dec.{eqb}
 use lib.ListN.{length, getD}
 use Rattle.text.specs.Ascii.{ascii}
 use Rattle.text.specs.Shape.{suits, shape}
@@ -20,7 +20,7 @@ use Rattle.register.proofs.Words.{same-true}
 use Rattle.facts.specs.Call.{Call}
 use Rattle.facts.specs.Rules.{isNew, isCxl, allFlags}
 use Rattle.verdict.specs.declared.Verdict.{Verdict}
-use Rattle.verdict.specs.Codes.{ruleCodes, formCodes, polishCodes, codes, codeCount}
+use Rattle.verdict.specs.Codes.{ruleCodes, formCodes, polishCodes, codes}
 use Rattle.verdict.specs.Verdict.{bit, pick, codesFound, verdictOf, refusedBy}
 use Rattle.verdict.specs.Counted.{times}
 use Rattle.verdict.specs.Bits.{bitsOf, flagsIn}
@@ -29,16 +29,15 @@ use Rattle.verdict.proofs.Promises.{code-count, codes-rise}
 use Rattle.verdict.proofs.WordLaws.{words-flags}
 use Rattle.judge.specs.Refusal.{clean, noRoom}
 use Rattle.judge.specs.Outcome.{Outcome, outcome, refusedOutcome, judgedOutcome, Judged}
-use Rattle.conditions.specs.Condition2.{accepted, listed, malformed}
+use Rattle.conditions.specs.Condition2.{listed, malformed}
 use Rattle.conditions.proofs.LineLaws.{Known, status-found, lei-length, entity-shaped, good-4, clean-known, clean-4, clean-cxl}
 use Rattle.conditions.proofs.FoundLaws.{form-once, says-found, count-found, listed-found}
 use Rattle.conditions.proofs.CallLaws.{Way, refused, stuck, heard, way}
-use Rattle.summary.specs.declared.Line.{Line}
 use Rattle.summary.specs.declared.Kind.the-variants.{New as NewLine, Cancelled, Found, Full, Refused}
 use Rattle.summary.specs.Counting.{heading, blank}
 use Rattle.summary.specs.Judged.{noEntity, entityIn, names, kindOf, ofNoEntity, lineOf}
 use Rattle.summary.proofs.NameLaws.{bit-once}
-use Rattle.day.specs.Summary.{Handed, found, refusedBefore11, headings, handed}
+use Rattle.day.specs.Summary.{Handed, found, refusedBefore11, handed}
 use Rattle.day.proofs.Numbers.{noted}
 use Rattle.day.proofs.Same.{Agree}
 

@@ -1,23 +1,22 @@
 -- What a run keeps, line by line as it is noted.
-use mathlib.Core.Path.{_≡_, refl, sym, ap, subst, subst₂, _∙_}
-use mathlib.Core.Bool.{Bool, true, false, cond, not, _&&_, _||_, true≢false}
+use mathlib.Core.Path.{_≡_, refl, sym, ap, subst, _∙_}
+use mathlib.Core.Bool.{true, false, not, true≢false}
 use mathlib.Core.List.{List, [], _∷_, _++_, map, map-append, append-assoc}
-use mathlib.Core.Logic.{_⊎_, inl, inr, ⊎-elim}
-use Prim.Native.Nat.{ℕ, zero, suc, _+_, _≤_, _<_}
+use mathlib.Core.Logic.{_⊎_, ⊎-elim}
+use Prim.Native.Nat.{ℕ, suc, _+_, _≤_, _<_}
 use native.Mathlib.Omega.{arith}
 use native.Mathlib.Nat.{zero-add}
-use borrow.Author.Tests.{lt-ltb, le-ltb, ltb-false}
+use borrow.Author.Tests.{ltb-false}
 use lib.Dec.{ltb}
-use lib.ListN.{length, getD, set, take, drop, replicate, length-set, length-append, length-map, length-take}
-use lib.Seq.{getD-take, take-set-lt, drop-set-lt, getD-append-seam, set-append-seam, length-take-le, take-take, take-append-seam, drop-append-seam, take-nil}
+use lib.ListN.{length, getD, set, take, drop, length-set, length-append, length-map, length-take}
+use lib.Seq.{getD-take, take-set-lt, drop-set-lt, getD-append-seam, set-append-seam, length-take-le, take-nil}
 use Rattle.text.specs.Word.{same}
 use Rattle.text.proofs.Bools.{by-test, and-left, and-right}
 use Rattle.summary.specs.declared.Line.{Line}
 use Rattle.summary.specs.declared.Record.{Record}
-use Rattle.summary.specs.declared.Tally.{Tally}
 use Rattle.summary.specs.Judged.{noEntity}
-use Rattle.summary.specs.Counting.{top, blank, fresh, added, countedOf, enteredOf}
-use Rattle.summary.specs.Noting.{reachOf, firstStop, free, After, inTable, inCommon, noteOf, Noting}
+use Rattle.summary.specs.Counting.{top, blank, fresh, added, enteredOf}
+use Rattle.summary.specs.Noting.{reachOf, firstStop, free, After, noteOf}
 use Rattle.summary.proofs.SearchLaws.{note-in-table, note-in-common}
 use Rattle.day.specs.Counts.{among, firms as firms-of, linesIn, linesInAll}
 use Rattle.day.specs.Summary.{allFree, used}

@@ -14,8 +14,7 @@ use Rattle.verdict.proofs.BitLaws.{bit-small}
 use Rattle.summary.specs.declared.Kind.{Kind}
 use Rattle.summary.specs.declared.Kind.the-variants.{New, Cancelled, Found, Full, Refused}
 use Rattle.summary.specs.declared.Line.{Line}
-use Rattle.summary.specs.declared.Record.{Record}
-use Rattle.summary.specs.Counting.{top, up, raised, heading, under, added, blank, fresh}
+use Rattle.summary.specs.Counting.{top, up, raised, under, added, blank, fresh}
 use Rattle.day.specs.Counts.{Asked, count, codesOf, recordOf, linesIn}
 
 -- a line as it is noted

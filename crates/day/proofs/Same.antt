@@ -1,17 +1,15 @@
 -- Two histories whose lines are asked the same and say the same count the same.
 use mathlib.Core.Path.{_≡_, refl, sym, ap, _∙_}
-use mathlib.Core.Bool.{Bool, true, false, cond, not, _&&_, _||_}
-use mathlib.Core.List.{List, [], _∷_, _++_, map}
+use mathlib.Core.Bool.{Bool, false, cond, not, _&&_, _||_}
+use mathlib.Core.List.{List, [], _∷_, _++_}
 use Prim.Native.Nat.{ℕ, zero, suc, _+_, _<_}
 use native.Mathlib.Omega.{arith}
 use lib.Dec.{leb}
 use lib.ListN.{length, take}
-use Rattle.text.specs.Word.{same}
 use Rattle.verdict.specs.Codes.{codeCount}
 use Rattle.verdict.specs.Verdict.{bit}
 use Rattle.text.proofs.Bools.{by-test}
-use Rattle.summary.specs.declared.Record.{Record}
-use Rattle.day.specs.Counts.{Asked, among, count, firms, seated, ofFirm, ofNone, codesOf, recordOf}
+use Rattle.day.specs.Counts.{Asked, among, count, firms, ofFirm, ofNone, codesOf, recordOf}
 
 module _ {K L : Type 0} (ask : Asked K) (asks : Asked L) where
   -- what one line says and the other

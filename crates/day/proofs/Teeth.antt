@@ -8,9 +8,9 @@ use lib.ListN.{length, take, replicate}
 use Rattle.facts.specs.Call.{Call}
 use Rattle.verdict.specs.declared.Verdict.{Verdict}
 use Rattle.verdict.specs.Findings.{over}
-use Rattle.judge.specs.Outcome.{outcome, Judged}
+use Rattle.judge.specs.Outcome.{outcome}
 use Rattle.judge.proofs.judge.Reads as reads
-use Rattle.judge.proofs.Contract.{Arguments, Returned, callOf, findingsBefore, findingsAfter}
+use Rattle.judge.proofs.Contract.{Arguments, Returned, callOf, findingsAfter}
 use Rattle.conditions.specs.Condition2.{listed}
 use Rattle.summary.specs.declared.Record.{Record}
 use Rattle.summary.specs.declared.Noted.{Noted}

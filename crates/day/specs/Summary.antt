@@ -1,7 +1,7 @@
 -- The day's summary: from an empty table, over any sequence of lines, each judged and then noted, each number equals the count of such
 -- lines in the history, the line counts of all records add up to the lines handed in, and entities stand by first appearance. It holds for
 -- fewer than 4,294,967,295 lines: then no counter is at its top.
-use Prim.Native.Nat.{ℕ, _+_, _<_}
+use Prim.Native.Nat.{ℕ, _+_}
 use mathlib.Core.Path.{_≡_}
 use mathlib.Core.Bool.{Bool, true, false, cond, not, _&&_, _||_}
 use mathlib.Core.List.{List, [], _∷_, map}

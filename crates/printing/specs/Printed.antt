@@ -1,9 +1,8 @@
 -- What is printed for a line: its number, the answer, n and the codes, in decimal with single spaces, then LF.
-use Prim.Native.Nat.{ℕ, zero, suc, _+_, _*_, _/_, _%_, _≤_}
+use Prim.Native.Nat.{ℕ, zero, suc, _+_, _*_, _/_, _%_}
 use mathlib.Core.Bool.{cond}
 use mathlib.Core.List.{List, [], _∷_, _++_}
 use lib.Dec.{ltb}
-use lib.ListN.{length}
 use Rattle.verdict.specs.Codes.{codeCount}
 
 -- the digits of a number that has at most f

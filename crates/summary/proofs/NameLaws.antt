@@ -13,12 +13,11 @@ use Rattle.cells.specs.Cells.{cell, cellsOf}
 use Rattle.reader.specs.Reading.{cellFrom, placeAfter}
 use Rattle.reader.proofs.ReadingLaws.{before-next, later-cell}
 use Rattle.verdict.specs.Codes.{ruleCodes, formCodes, polishCodes, codes, ruleCount, codeCount}
-use Rattle.verdict.specs.Verdict.{bit, pick, codesFound}
-use Rattle.verdict.specs.Counted.{bitAt, times}
+use Rattle.verdict.specs.Verdict.{bit}
+use Rattle.verdict.specs.Counted.{bitAt}
 use Rattle.verdict.specs.Bits.{bitsOf, flagsIn}
 use Rattle.verdict.proofs.OrderLaws.{pick-once}
 use Rattle.verdict.proofs.Promises.{code-count, codes-rise}
-use Rattle.verdict.proofs.WordLaws.{bits-length}
 use Rattle.summary.specs.Judged.{names}
 
 -- bit j of a word is flag j

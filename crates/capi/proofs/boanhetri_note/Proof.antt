@@ -31,7 +31,7 @@ use sound.WpLaws.{FmC, fmOf, WpFn-mono}
 use denote.RattleType.{RattleType, owns}
 use denote.Memory.{mem, pointee}
 use denote.Shadow.{pureI}
-use denote.Laws.{Is, shows, Tells}
+use denote.Laws.{Is, shows}
 use denote.Plain.{uint-makes, uint-lawful, bool-lawful}
 use denote.Array.{Array as Row, array-makes, array-lawful}
 use denote.Builtin.{u8, usize, bool, ArrayOf}
@@ -51,7 +51,7 @@ use denote.Triple.Walked.{says, Stays, stay-slice, stay-ref, stay-none-slice, st
 use denote.Exit.{yes}
 use Rattle.summary.specs.Counting.{enteredOf, countedOf}
 use Rattle.summary.specs.Judged.{lineOf}
-use Rattle.summary.specs.Noting.{reachOf, stopsAt, firstStop, free, noteOf, Noting}
+use Rattle.summary.specs.Noting.{reachOf, stopsAt, free, noteOf, Noting}
 use Rattle.summary.specs.declared.Record.{Record}
 use Rattle.summary.specs.declared.Line.{Line}
 use Rattle.summary.specs.declared.Tally.{Tally}

@@ -1,9 +1,8 @@
 use Rattle.summary.proofs.entity_in.Statement.{statement}
 use Rattle.summary.proofs.entity_in.Tie as tie
 use mathlib.Core.Path.{_≡_, refl, sym, ap, _∙_}
-use Prim.Native.Nat.{_≤_, _<_, _-_}
+use Prim.Native.Nat.{_≤_, _-_}
 use native.Mathlib.Omega.{arith}
-use borrow.Author.Needs.{needs}
 use borrow.Author.Tests.{eq-eqb, ne-eqb}
 use lib.ListN.{length, getD}
 use Rattle.text.proofs.Bools.{cond-yes, cond-no}

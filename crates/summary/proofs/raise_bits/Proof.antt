@@ -1,6 +1,6 @@
 use Rattle.summary.proofs.raise_bits.Statement.{statement}
 use Rattle.summary.proofs.raise_bits.Tie as tie
-use lib.Count.{trailingZeros, trailing-le}
+use lib.Count.{trailing-le}
 use native.Mathlib.Omega.{arith}
 use Rattle.summary.proofs.RaiseLaws.{RaisedSoFar, raised-start, raised-stop, raised-end, low-at, low-under, low-within, left-less, raised-on}
 
