@@ -14,15 +14,16 @@ use Rattle.text.specs.Word.{same}
 use Rattle.text.proofs.Bools.{by-test, and-left, and-right}
 use Rattle.summary.specs.declared.Line.{Line}
 use Rattle.summary.specs.declared.Record.{Record}
+use Rattle.summary.specs.declared.Tally.{Tally}
 use Rattle.summary.specs.Judged.{noEntity}
-use Rattle.summary.specs.Counting.{top, blank, fresh, added, enteredOf}
+use Rattle.summary.specs.Counting.{top, blank, fresh, added, stuckIn, countedOf, enteredOf}
 use Rattle.summary.specs.Noting.{reachOf, firstStop, free, After, noteOf}
 use Rattle.summary.proofs.SearchLaws.{note-in-table, note-in-common}
 use Rattle.day.specs.Counts.{among, firms as firms-of, linesIn, linesInAll}
 use Rattle.day.specs.Summary.{allFree, used}
 use Rattle.register.proofs.Words.{same-refl}
 use Rattle.day.proofs.Lists.{distinct, find, find-among, find-none, known-take, distinct-take, first-not, stop-find, getD-find, map-others, set-find}
-use Rattle.day.proofs.Numbers.{such-added, other-kept, none-counted, lines-counted, record-entity}
+use Rattle.day.proofs.Numbers.{none-at-top, such-added, other-kept, none-counted, lines-counted, record-entity}
 use Rattle.day.proofs.Seats.{firms, seated, ofFirm, ofNone, recordOf, is-of, not-of, firms-known, firms-distinct, not-yet, Falls, common, old, taken, falls}
 
 abbrev pub firm : List Line → List ℕ → Record
@@ -38,6 +39,12 @@ pub record Kept (m : ℕ) (start : List Record) (h : List Line) (rs : List Recor
   pub frees : allFree rest ≡ true
   pub later : drop m rs ≡ drop m start
   pub common-is : c ≡ none m h
+
+-- one line more: what is kept then, and what noting it says
+pub record Step (m : ℕ) (start : List Record) (h : List Line) (l : Line) (x : After) : Type 0 where
+  pub keeps : Kept m start (l ∷ h) (x .records) (x .common)
+  pub went : x .noted .common ≡ ofNone m l h
+  pub none-stuck : x .noted .stuck ≡ false
 
 used-within : (rs : List Record) → used rs ≤ length rs
 used-within rs = by-test (ltb (length rs) 256) (λ t. rw t (omega arith)) (λ t. rw t (omega (arith, ltb-false (length rs) 256 t)))
@@ -59,11 +66,11 @@ pub take-most : {A : Type 0} (n : ℕ) (xs : List A) → length (take n xs) ≤ 
 take-most n xs = rw (length-take n xs) (omega arith)
 
 -- a record of an entity counts the line; a free one is taken first
-entered-known : (r : Record) (l : Line) → blank (r .entity) ≡ false → enteredOf r l .after ≡ added r l
+entered-known : (r : Record) (l : Line) → blank (r .entity) ≡ false → enteredOf r l ≡ countedOf r l
 unfolding enteredOf
 entered-known r l b = rw b
 
-entered-free : (r : Record) (l : Line) → blank (r .entity) ≡ true → enteredOf r l .after ≡ added (fresh (l .entity)) l
+entered-free : (r : Record) (l : Line) → blank (r .entity) ≡ true → enteredOf r l ≡ countedOf (fresh (l .entity)) l
 unfolding enteredOf
 entered-free r l b = rw b
 
@@ -93,16 +100,21 @@ module _ (start : List Record) (h : List Line) (rs : List Record) (c : Record) (
   seats-most : length fs ≤ m
   seats-most = take-most m (firms h)
 
-  in-common : ofNone m l h ≡ true → seated m (l ∷ h) ≡ fs → among e fs ≡ false → (blank e ≡ true) ⊎ ((blank e ≡ false) × (m ≤ length fs)) → Kept m start (l ∷ h) (noteOf rs c l .records) (noteOf rs c l .common)
+  in-common : ofNone m l h ≡ true → seated m (l ∷ h) ≡ fs → among e fs ≡ false → (blank e ≡ true) ⊎ ((blank e ≡ false) × (m ≤ length fs)) → Step m start h l (noteOf rs c l)
   in-common t s a w =
-      subst (λ (x : After). Kept m start (l ∷ h) (x .records) (x .common)) (sym (note-in-common rs c l (⊎-elim blank-stop full-stop w)))
+      subst (Step m start h l) (sym (note-in-common rs c l (⊎-elim blank-stop full-stop w)))
       (record {
-        rest = k .rest;
-        size = k .size;
-        holds = k .holds ∙ ap (λ (xs : List Record). xs ++ k .rest) (sym (map-others (firm h) (λ f. record-entity f (ofFirm f) h) e (firm (l ∷ h)) others fs a) ∙ ap (map (firm (l ∷ h))) (sym s));
-        frees = k .frees;
-        later = k .later;
-        common-is = ap (λ (r : Record). added r l) (k .common-is) ∙ such-added noEntity (ofNone m) l h t fits;
+        keeps =
+            record {
+              rest = k .rest;
+              size = k .size;
+              holds = k .holds ∙ ap (λ (xs : List Record). xs ++ k .rest) (sym (map-others (firm h) (λ f. record-entity f (ofFirm f) h) e (firm (l ∷ h)) others fs a) ∙ ap (map (firm (l ∷ h))) (sym s));
+              frees = k .frees;
+              later = k .later;
+              common-is = ap (λ (r : Record). added r l) (k .common-is) ∙ such-added noEntity (ofNone m) l h t fits;
+            };
+        went = sym t;
+        none-stuck = ap (λ (r : Record). stuckIn r l) (k .common-is) ∙ none-at-top noEntity (ofNone m) l h fits;
       })
     where
       blank-stop : blank e ≡ true → firstStop e (take (reachOf (length rs) e) rs) ≡ reachOf (length rs) e
@@ -112,25 +124,33 @@ module _ (start : List Record) (h : List Line) (rs : List Record) (c : Record) (
       full-stop w = let z : find e fs ≡ length fs = find-none e fs a in stop (w .0) ∙ z ∙ (let q : length fs ≡ m = omega (arith, seats-most, w .1) in q) ∙ sym (reach-all start rs e (k .size) (w .0))
 
   -- the record at the place i is put anew
-  put-at : (i : ℕ) (x : Record) (rest : List Record) → i < m → firstStop e (take (reachOf (length rs) e) rs) ≡ i → blank e ≡ false → enteredOf (getD rs i free) l .after ≡ x
-      → set (map (firm h) fs ++ k .rest) i x ≡ map (firm (l ∷ h)) (seated m (l ∷ h)) ++ rest → allFree rest ≡ true → ofNone m l h ≡ false
-      → Kept m start (l ∷ h) (noteOf rs c l .records) (noteOf rs c l .common)
-  put-at i x rest lt q b is put free-rest t =
+  put-at : (i : ℕ) (rest : List Record) → i < m → firstStop e (take (reachOf (length rs) e) rs) ≡ i → blank e ≡ false → enteredOf (getD rs i free) l ≡ countedOf (firm h e) l
+      → set (map (firm h) fs ++ k .rest) i (firm (l ∷ h) e) ≡ map (firm (l ∷ h)) (seated m (l ∷ h)) ++ rest → allFree rest ≡ true → ofNone m l h ≡ false
+      → Step m start h l (noteOf rs c l)
+  put-at i rest lt q b counted put free-rest t =
       let n : i < reachOf (length rs) e = rw (reach-all start rs e (k .size) b) lt in
-      subst (λ (z : After). Kept m start (l ∷ h) (z .records) (z .common)) (sym (note-in-table rs c l i q n))
+      let is : enteredOf (getD rs i free) l .after ≡ firm (l ∷ h) e =
+      ap (λ (u : Tally). u .after) counted ∙ such-added e (ofFirm e) l h (is-of e l h b (same-refl e)) fits
+      in
+      subst (Step m start h l) (sym (note-in-table rs c l i q n))
       (record {
-        rest = rest;
-        size = length-set rs i (enteredOf (getD rs i free) l .after) ∙ k .size;
-        holds = take-set-lt m rs i (enteredOf (getD rs i free) l .after) lt ∙ (λ j. set (k .holds j) i (is j)) ∙ put;
-        frees = free-rest;
-        later = drop-set-lt m rs i (enteredOf (getD rs i free) l .after) lt ∙ k .later;
-        common-is = k .common-is ∙ sym (other-kept noEntity (ofNone m) l h t);
+        keeps =
+            record {
+              rest = rest;
+              size = length-set rs i (enteredOf (getD rs i free) l .after) ∙ k .size;
+              holds = take-set-lt m rs i (enteredOf (getD rs i free) l .after) lt ∙ (λ j. set (k .holds j) i (is j)) ∙ put;
+              frees = free-rest;
+              later = drop-set-lt m rs i (enteredOf (getD rs i free) l .after) lt ∙ k .later;
+              common-is = k .common-is ∙ sym (other-kept noEntity (ofNone m) l h t);
+            };
+        went = sym t;
+        none-stuck = ap (λ (u : Tally). u .stuck) counted ∙ none-at-top e (ofFirm e) l h fits;
       })
 
-  in-old : ofNone m l h ≡ false → seated m (l ∷ h) ≡ fs → among e fs ≡ true → blank e ≡ false → Kept m start (l ∷ h) (noteOf rs c l .records) (noteOf rs c l .common)
+  in-old : ofNone m l h ≡ false → seated m (l ∷ h) ≡ fs → among e fs ≡ true → blank e ≡ false → Step m start h l (noteOf rs c l)
   in-old t s a b =
       let lt : find e fs < m = omega (arith, find-among e fs a, seats-most) in
-      put-at (find e fs) (firm (l ∷ h) e) (k .rest) lt (stop b) b (ap (λ (r : Record). enteredOf r l .after) it ∙ entered-known (firm h e) l (ap blank (record-entity e (ofFirm e) h) ∙ b) ∙ such-added e (ofFirm e) l h (is-of e l h b (same-refl e)) fits)
+      put-at (find e fs) (k .rest) lt (stop b) b (ap (λ (r : Record). enteredOf r l) it ∙ entered-known (firm h e) l (ap blank (record-entity e (ofFirm e) h) ∙ b))
       (set-find (firm h) (λ f. record-entity f (ofFirm f) h) e (firm (l ∷ h)) others fs (k .rest) (distinct-take m (firms h) (firms-distinct h)) a ∙ ap (λ (gs : List (List ℕ)). map (firm (l ∷ h)) gs ++ k .rest) (sym s))
       (k .frees) t
     where
@@ -139,14 +159,14 @@ module _ (start : List Record) (h : List Line) (rs : List Record) (c : Record) (
 
   -- the first free record is taken
   in-taken : (rest : List Record) → k .rest ≡ rest → ofNone m l h ≡ false → fs ≡ firms h → length (firms h) < m → seated m (l ∷ h) ≡ firms h ++ (e ∷ []) → among e (firms h) ≡ false → blank e ≡ false
-      → Kept m start (l ∷ h) (noteOf rs c l .records) (noteOf rs c l .common)
+      → Step m start h l (noteOf rs c l)
   in-taken [] r t s few s′ a b =
       let z : length (take m rs) ≡ length (map (firm h) fs ++ k .rest) = ap length (k .holds) in
       let y : length (map (firm h) fs ++ k .rest) ≡ length (firms h) + 0 = (λ i. length (map (firm h) (s i) ++ r i)) ∙ length-append (map (firm h) (firms h)) [] ∙ ap (λ (n : ℕ). n + 0) (length-map (firms h) (firm h)) in
       absurd (omega (arith, z, y, length-take-le m rs room))
   in-taken (f ∷ rest) r t s few s′ a b =
-      put-at (length (firms h)) (firm (l ∷ h) e) rest few (stop b ∙ ap (find e) s ∙ find-none e (firms h) a) b
-      (ap (λ (x : Record). enteredOf x l .after) it ∙ entered-free f l (and-left (blank (f .entity)) (allFree rest) (ap allFree (sym r) ∙ k .frees)) ∙ ap (λ (x : Record). added x l) (sym (not-yet e h b a)) ∙ such-added e (ofFirm e) l h (is-of e l h b (same-refl e)) fits)
+      put-at (length (firms h)) rest few (stop b ∙ ap (find e) s ∙ find-none e (firms h) a) b
+      (ap (λ (x : Record). enteredOf x l) it ∙ entered-free f l (and-left (blank (f .entity)) (allFree rest) (ap allFree (sym r) ∙ k .frees)) ∙ ap (λ (x : Record). countedOf x l) (sym (not-yet e h b a)))
       ((λ i. set (map (firm h) (s i) ++ r i) (length (firms h)) (firm (l ∷ h) e))
       ∙ ap (λ (n : ℕ). set (map (firm h) (firms h) ++ (f ∷ rest)) n (firm (l ∷ h) e)) (sym (length-map (firms h) (firm h)))
       ∙ set-append-seam (map (firm h) (firms h)) f rest (firm (l ∷ h) e)
@@ -159,10 +179,10 @@ module _ (start : List Record) (h : List Line) (rs : List Record) (c : Record) (
       it = here (length (firms h)) few ∙ (λ i. getD (map (firm h) (s i) ++ r i) (length (firms h)) free)
           ∙ ap (λ (n : ℕ). getD (map (firm h) (firms h) ++ (f ∷ rest)) n free) (sym (length-map (firms h) (firm h))) ∙ getD-append-seam (map (firm h) (firms h)) f rest free
 
-  pub kept-on : Kept m start (l ∷ h) (noteOf rs c l .records) (noteOf rs c l .common)
+  pub kept-on : Step m start h l (noteOf rs c l)
   kept-on = go (falls m l h)
     where
-      go : Falls m l h → Kept m start (l ∷ h) (noteOf rs c l .records) (noteOf rs c l .common)
+      go : Falls m l h → Step m start h l (noteOf rs c l)
       go (common t s a w) = in-common t s a w
       go (old t s a b) = in-old t s a b
       go (taken t s few s′ a b) = in-taken (k .rest) refl t s few s′ a b

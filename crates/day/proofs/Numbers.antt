@@ -1,6 +1,6 @@
 -- What lines of one sort count, and how one more changes it.
 use mathlib.Core.Path.{_≡_, refl, sym, ap, _∙_}
-use mathlib.Core.Bool.{Bool, true, false, _&&_}
+use mathlib.Core.Bool.{Bool, true, false, _&&_, _||_}
 use mathlib.Core.List.{List, [], _∷_}
 use Prim.Native.Nat.{ℕ, zero, suc, _+_, _≤_, _<_}
 use native.Mathlib.Omega.{arith}
@@ -14,7 +14,7 @@ use Rattle.verdict.proofs.BitLaws.{bit-small}
 use Rattle.summary.specs.declared.Kind.{Kind}
 use Rattle.summary.specs.declared.Kind.the-variants.{New, Cancelled, Found, Full, Refused}
 use Rattle.summary.specs.declared.Line.{Line}
-use Rattle.summary.specs.Counting.{top, up, raised, under, added, blank, fresh}
+use Rattle.summary.specs.Counting.{top, up, stuck, raised, anyStuck, stuckIn, under, added, blank, fresh}
 use Rattle.day.specs.Counts.{Asked, count, codesOf, recordOf, linesIn}
 
 -- a line as it is noted
@@ -89,6 +89,33 @@ module _ (e : List ℕ) (such : Line → List Line → Bool) (l : Line) (h : Lis
       refused = no-more (under 4) i;
       codes = codes-same 0 codeCount i;
     }
+
+-- no counter of so few lines is at its top
+stuck-not : (t : Bool) (n : ℕ) → n < top → stuck t n ≡ false
+unfolding stuck
+stuck-not true n h = rw (lt-ltb n top h)
+stuck-not false n h = refl
+
+module _ (e : List ℕ) (such : Line → List Line → Bool) (l : Line) (h : List Line) (fits : length h < top) where
+  below-top : (p : Line → Bool) → count (λ x earlier. such x earlier && p x) h < top
+  below-top p = omega (arith, count-most (λ x earlier. such x earlier && p x) h)
+
+  codes-below : (flags : List Bool) (j k : ℕ) → anyStuck flags (codesOf noted such h j k) ≡ false
+  unfolding anyStuck
+  codes-below [] j k = refl
+  codes-below (flag ∷ flags) j zero = refl
+  codes-below (flag ∷ flags) j (suc k) =
+      rw (stuck-not flag (count (λ x earlier. such x earlier && noted .has j x) h) (below-top (noted .has j))) (codes-below flags (suc j) k)
+
+  pub none-at-top : stuckIn (recordOf noted e such h) l ≡ false
+  unfolding stuckIn recordOf
+  none-at-top =
+      λ i. stuck-not (under 0 l) _ (below-top (under 0)) i
+      || stuck-not (under 1 l) _ (below-top (under 1)) i
+      || stuck-not (under 2 l) _ (below-top (under 2)) i
+      || stuck-not (under 3 l) _ (below-top (under 3)) i
+      || stuck-not (under 4 l) _ (below-top (under 4)) i
+      || codes-below (flagsIn (l .words)) 0 codeCount i
 
 pub none-counted : (e : List ℕ) (such : Line → List Line → Bool) → recordOf noted e such [] ≡ fresh e
 unfolding recordOf fresh

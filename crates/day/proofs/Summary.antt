@@ -5,12 +5,18 @@ use Prim.Native.Nat.{ℕ, _+_, _<_}
 use native.Mathlib.Omega.{arith}
 use lib.ListN.{length, take, drop, length-map}
 use lib.Seq.{take-take, take-append-seam, drop-append-seam}
+use Rattle.facts.specs.Call.{Call}
+use Rattle.verdict.specs.declared.Verdict.{Verdict}
+use Rattle.judge.specs.Outcome.{outcome, Judged}
+use Rattle.conditions.specs.Condition2.{listed}
 use Rattle.summary.specs.declared.Line.{Line}
 use Rattle.summary.specs.declared.Record.{Record}
+use Rattle.summary.specs.declared.Noted.{Noted}
 use Rattle.summary.specs.Counting.{top}
 use Rattle.summary.specs.Judged.{noEntity, lineOf}
+use Rattle.summary.specs.Noting.{noteOf, Noting}
 use Rattle.day.specs.Counts.{firms, seated, ofFirm, ofNone, recordOf, linesIn, linesInAll}
-use Rattle.day.specs.Summary.{Handed, handed, used, allFree, Run, begin, next, Summary}
+use Rattle.day.specs.Summary.{Handed, handed, used, allFree, Run, begin, next, Summary, Says}
 use Rattle.day.proofs.Numbers.{noted}
 use Rattle.day.proofs.Kept.{Kept, firm, take-most, kept-none, kept-on, total}
 use Rattle.day.proofs.Same.{AllAgree, none, more, same-length, same-firms, firm-agrees, none-agrees, same-record}
@@ -33,7 +39,7 @@ told {start} (next {history} {records} {after} {common} {then} call {verdict = v
       all = more (agrees call judged) (before .all);
       keeps =
           subst₂ (λ (rs : List Record) (c : Record). Kept (used start) start (l ∷ before .lines) rs c) (sym (n .counts)) (sym (n .keeps))
-          (kept-on start (before .lines) records common l (before .keeps) (omega (arith, same-length noted handed (before .all))));
+          (kept-on start (before .lines) records common l (before .keeps) (omega (arith, same-length noted handed (before .all))) .keeps);
     }
 
 module _ (start : List Record) {history : List Handed} {records : List Record} {common : Record} (t : Told start history records common) where
@@ -78,3 +84,18 @@ module _ (start : List Record) {history : List Handed} {records : List Record} {
 pub day-summary : (start : List Record) {history : List Handed} {records : List Record} {common : Record} → Run start history records common
     → length history < top → Summary (used start) start history records common
 day-summary start run fits = summed start (told run fits)
+
+-- and of what the next call says
+pub day-says :
+    (start : List Record) {history : List Handed} {records : List Record} {common : Record} → Run start history records common → length history < top
+    → (call : Call) {before findings left : List ℕ} {verdict : Verdict} → Judged (outcome call (length before)) before verdict findings left
+    → {said : Noted} {after : List Record} {then : Record} → Noting (noteOf records common (lineOf (call .line) verdict)) said after then
+    → Says (used start) history (record { line = call .line; verdict = verdict; findings = listed verdict findings }) said
+day-says start {history} {records} {common} run fits call {before} {findings} {left} {verdict} judged {said} n =
+    let t : Told start history records common = told run fits in
+    let l : Line = lineOf (call .line) verdict in
+    let step = kept-on start (t .lines) records common l (t .keeps) (omega (arith, same-length noted handed (t .all))) in
+    record {
+      went = ap (λ (x : Noted). x .common) (n .says) ∙ step .went ∙ none-agrees noted handed (used start) l _ (t .lines) history (agrees call judged) (t .all);
+      none-stuck = ap (λ (x : Noted). x .stuck) (n .says) ∙ step .none-stuck;
+    }

@@ -28,9 +28,11 @@ pub record Handed : Type 0 where
   pub verdict : Verdict
   pub findings : List ℕ
 
+-- a code stands in the findings
 abbrev pub found : Handed → ℕ → Bool
 found h code = eqb (times code (h .findings)) 1
 
+-- by 1 to 10
 abbrev pub refusedBefore11 : Handed → Bool
 refusedBefore11 h = not (eqb (h .verdict .answer) 0) && not (eqb (h .verdict .answer) 11)
 
@@ -86,3 +88,8 @@ pub record Summary (m : ℕ) (start : List Record) (history : List Handed) (reco
   pub common-is : common ≡ recordOf handed noEntity (ofNone handed m) history
   -- the lines of all records add up to those handed in
   pub add-up : linesInAll (take (length (seated handed m history)) records) + linesIn common ≡ length history
+
+-- What is said of a line when it is noted: whether the common record took it, and that no counter was at its top
+pub record Says (m : ℕ) (earlier : List Handed) (h : Handed) (noted : Noted) : Type 0 where
+  pub went : noted .common ≡ ofNone handed m h earlier
+  pub none-stuck : noted .stuck ≡ false

@@ -169,7 +169,7 @@ fn is_blank(entity: &[u8; 20]) -> bool
 }
 
 // The record of an entity that has no line yet.
-pub fn fresh_of(entity: [u8; 20]) -> Record
+fn fresh_of(entity: [u8; 20]) -> Record
     ensures { λ r. ⌜ r ≡ fresh entity ⌝ }
 {
     Record {
