@@ -17,7 +17,7 @@ use Rattle.summary.specs.declared.Record.{Record}
 use Rattle.summary.specs.declared.Tally.{Tally}
 use Rattle.summary.specs.Judged.{noEntity}
 use Rattle.summary.specs.Counting.{top, blank, fresh, added, stuckIn, countedOf, enteredOf}
-use Rattle.summary.specs.Noting.{reachOf, firstStop, free, After, noteOf}
+use Rattle.summary.specs.Noting.{reachOf, firstStop, entityOf, free, After, noteOf}
 use Rattle.summary.proofs.SearchLaws.{note-in-table, note-in-common}
 use Rattle.day.specs.Counts.{among, firms as firms-of, linesIn, linesInAll}
 use Rattle.day.specs.Summary.{allFree, used}
@@ -58,7 +58,7 @@ reach-none : (n : ℕ) (e : List ℕ) → blank e ≡ true → reachOf n e ≡ 0
 unfolding reachOf
 reach-none n e b = rw b
 
-stop-none : (e : List ℕ) (rs : List Record) → firstStop e (take 0 rs) ≡ 0
+stop-none : (e : List ℕ) (rs : List Record) → firstStop entityOf e (take 0 rs) ≡ 0
 unfolding firstStop
 stop-none e rs = refl
 
@@ -87,8 +87,8 @@ module _ (start : List Record) (h : List Line) (rs : List Record) (c : Record) (
   others : (f : List ℕ) → same e f ≡ false → firm (l ∷ h) f ≡ firm h f
   others f s = other-kept f (ofFirm f) l h (not-of f l h s)
 
-  stop : blank e ≡ false → firstStop e (take (reachOf (length rs) e) rs) ≡ find e fs
-  stop b = ap (λ (n : ℕ). firstStop e (take n rs)) (reach-all start rs e (k .size) b) ∙ ap (firstStop e) (k .holds)
+  stop : blank e ≡ false → firstStop entityOf e (take (reachOf (length rs) e) rs) ≡ find e fs
+  stop b = ap (λ (n : ℕ). firstStop entityOf e (take n rs)) (reach-all start rs e (k .size) b) ∙ ap (firstStop entityOf e) (k .holds)
       ∙ stop-find (firm h) (λ f. record-entity f (ofFirm f) h) e fs (k .rest) (known-take m (firms h) (firms-known h)) (k .frees)
 
   room : m ≤ length rs
@@ -117,14 +117,14 @@ module _ (start : List Record) (h : List Line) (rs : List Record) (c : Record) (
         none-stuck = ap (λ (r : Record). stuckIn r l) (k .common-is) ∙ none-at-top noEntity (ofNone m) l h fits;
       })
     where
-      blank-stop : blank e ≡ true → firstStop e (take (reachOf (length rs) e) rs) ≡ reachOf (length rs) e
-      blank-stop b = ap (λ (n : ℕ). firstStop e (take n rs)) (reach-none (length rs) e b) ∙ stop-none e rs ∙ sym (reach-none (length rs) e b)
+      blank-stop : blank e ≡ true → firstStop entityOf e (take (reachOf (length rs) e) rs) ≡ reachOf (length rs) e
+      blank-stop b = ap (λ (n : ℕ). firstStop entityOf e (take n rs)) (reach-none (length rs) e b) ∙ stop-none e rs ∙ sym (reach-none (length rs) e b)
 
-      full-stop : (blank e ≡ false) × (m ≤ length fs) → firstStop e (take (reachOf (length rs) e) rs) ≡ reachOf (length rs) e
+      full-stop : (blank e ≡ false) × (m ≤ length fs) → firstStop entityOf e (take (reachOf (length rs) e) rs) ≡ reachOf (length rs) e
       full-stop w = let z : find e fs ≡ length fs = find-none e fs a in stop (w .0) ∙ z ∙ (let q : length fs ≡ m = omega (arith, seats-most, w .1) in q) ∙ sym (reach-all start rs e (k .size) (w .0))
 
   -- the record at the place i is put anew
-  put-at : (i : ℕ) (rest : List Record) → i < m → firstStop e (take (reachOf (length rs) e) rs) ≡ i → blank e ≡ false → enteredOf (getD rs i free) l ≡ countedOf (firm h e) l
+  put-at : (i : ℕ) (rest : List Record) → i < m → firstStop entityOf e (take (reachOf (length rs) e) rs) ≡ i → blank e ≡ false → enteredOf (getD rs i free) l ≡ countedOf (firm h e) l
       → set (map (firm h) fs ++ k .rest) i (firm (l ∷ h) e) ≡ map (firm (l ∷ h)) (seated m (l ∷ h)) ++ rest → allFree rest ≡ true → ofNone m l h ≡ false
       → Step m start h l (noteOf rs c l)
   put-at i rest lt q b counted put free-rest t =

@@ -10,7 +10,7 @@ use Rattle.register.proofs.Words.{same-true}
 use Rattle.text.proofs.Bools.{by-test, and-left, and-right, or-left, or-right}
 use Rattle.summary.specs.declared.Record.{Record}
 use Rattle.summary.specs.Counting.{blank}
-use Rattle.summary.specs.Noting.{stopsAt, firstStop}
+use Rattle.summary.specs.Noting.{stopsAt, firstStop, entityOf}
 use Rattle.day.specs.Counts.{among}
 use Rattle.day.specs.Summary.{allFree}
 
@@ -62,7 +62,7 @@ first-not e f fs t d =
 
 -- records of entities in front of free ones
 module _ (g : List ℕ → Record) (named : (f : List ℕ) → g f .entity ≡ f) (e : List ℕ) where
-  pub stop-find : (fs : List (List ℕ)) (rest : List Record) → known fs ≡ true → allFree rest ≡ true → firstStop e (map g fs ++ rest) ≡ find e fs
+  pub stop-find : (fs : List (List ℕ)) (rest : List Record) → known fs ≡ true → allFree rest ≡ true → firstStop entityOf e (map g fs ++ rest) ≡ find e fs
   unfolding firstStop stopsAt
   stop-find [] [] k a = refl
   stop-find [] (r ∷ rest) k a = rw (and-left (blank (r .entity)) (allFree rest) a)

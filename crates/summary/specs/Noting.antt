@@ -13,21 +13,28 @@ use Rattle.summary.specs.declared.Noted.{Noted}
 use Rattle.summary.specs.Counting.{blank, fresh, enteredOf, countedOf}
 use Rattle.summary.specs.Judged.{noEntity}
 
--- how many records are used: none for a line of no entity, and at most 256
+-- records past these stay unused
+abbrev pub mostRecords : ℕ
+mostRecords = 256
+
+-- how many records are used: none for a line of no entity
 unfoldable pub reachOf : ℕ → List ℕ → ℕ
-reachOf room e = cond (blank e) 0 (cond (ltb room 256) room 256)
+reachOf room e = cond (blank e) 0 (cond (ltb room mostRecords) room mostRecords)
 
 -- the search for e stops at a record of the entity k: it is free, or it is e's
 unfoldable pub stopsAt : List ℕ → List ℕ → Bool
 stopsAt k e = blank k || same e k
 
--- the place of the first record where it stops, and how many there are where it does not
-unfoldable pub firstStop : List ℕ → List Record → ℕ
-firstStop e [] = 0
-firstStop e (r ∷ rs) = cond (stopsAt (r .entity) e) 0 (suc (firstStop e rs))
+-- of rows that have a name each, the place of the first where it stops, and how many there are where it does not
+unfoldable pub firstStop : {R : Type 0} → (R → List ℕ) → List ℕ → List R → ℕ
+firstStop name e [] = 0
+firstStop name e (r ∷ rs) = cond (stopsAt (name r) e) 0 (suc (firstStop name e rs))
+
+abbrev pub entityOf : Record → List ℕ
+entityOf r = r .entity
 
 abbrev pub placeOf : List ℕ → List Record → ℕ
-placeOf e records = firstStop e (take (reachOf (length records) e) records)
+placeOf e records = firstStop entityOf e (take (reachOf (length records) e) records)
 
 abbrev pub free : Record
 free = fresh noEntity

@@ -20,7 +20,7 @@ use verdict::RULE_COUNT;
 use verdict::Verdict;
 
 // No record behind this many is used.
-const MOST: usize = 256;
+pub const MOST_RECORDS: usize = 256;
 
 const TOP: u32 = 4294967295;
 
@@ -202,7 +202,11 @@ pub fn reach(room: usize, entity: [u8; 20]) -> usize
     if is_blank(&entity) {
         return 0;
     }
-    if room < MOST { room } else { MOST }
+    if room < MOST_RECORDS {
+        room
+    } else {
+        MOST_RECORDS
+    }
 }
 
 // The search for `entity` stops at a record of the entity `name`: it is free, or its own.

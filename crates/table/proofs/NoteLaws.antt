@@ -14,11 +14,11 @@ use Rattle.summary.specs.declared.Record.{Record}
 use Rattle.summary.specs.declared.Tally.{Tally}
 use Rattle.summary.specs.Counting.{enteredOf, countedOf}
 use Rattle.summary.specs.Judged.{lineOf}
-use Rattle.summary.specs.Noting.{reachOf, firstStop, placeOf, free, inTable, inCommon, noteOf}
-use Rattle.table.specs.Rows.{Table, Rows, recordCount, recordIn, rowOf, recordsIn, tableIn, firstName, found, rowFor}
-use Rattle.table.specs.Noted.{left, noted, talliedOf}
+use Rattle.summary.specs.Noting.{reachOf, firstStop, entityOf, placeOf, free, inTable, inCommon, noteOf}
+use Rattle.summary.proofs.SearchLaws.{reach-within}
+use Rattle.table.specs.Rows.{Table, Rows, recordCount, recordIn, rowOf, recordsIn, tableIn, found, rowFor}
+use Rattle.table.specs.Noted.{left, noted, talliedOf, recordAfter, NotedIn}
 use Rattle.table.proofs.RowLaws.{records-length, records-at, records-set, same-stop}
-use Rattle.table.proofs.SearchLaws.{reach-within}
 
 module _ (names numbers : List (List ℕ)) (rows : Rows names numbers) where
   abbrev records : List Record
@@ -80,9 +80,9 @@ module _ (names numbers : List (List ℕ)) (rows : Rows names numbers) where
 
     stop-is : placeOf (l .entity) records ≡ stop
     stop-is =
-        ap (λ (n : ℕ). firstStop (l .entity) (take n records)) reach-is
+        ap (λ (n : ℕ). firstStop entityOf (l .entity) (take n records)) reach-is
         ∙ same-stop (l .entity) reach (take recordCount names) (take recordCount numbers) firsts-same
-        ∙ ap (firstName (l .entity)) (take-take reach recordCount names (reach-within (l .entity)))
+        ∙ ap (firstStop (λ name. name) (l .entity)) (take-take reach recordCount names (reach-within recordCount (l .entity)))
 
     abbrev noted-by : Bool → Table
     noted-by t = left (cond t (inTable records common stop (enteredOf (getD records stop free) l)) (inCommon records (countedOf common l)))
@@ -115,19 +115,21 @@ module _ (names numbers : List (List ℕ)) (rows : Rows names numbers) where
     in-row = go (ltb stop reach) refl ∙ sym by-names
       where
         go : (t : Bool) → ltb stop reach ≡ t → with-row (tallied-at (cond t stop recordCount) .after) (cond t stop recordCount) ≡ noted-by t
-        go true t = stopped (omega (arith, ltb-true stop reach t, reach-within (l .entity)))
+        go true t = stopped (omega (arith, ltb-true stop reach t, reach-within recordCount (l .entity)))
         go false t = not-stopped
 
   -- what the calls that note a line answer, one after another
   pub noted-row : (line : List ℕ) (verdict : Verdict) {row-after : List ℕ} {l : Line} {i : ℕ} {r : Record} {t : Tally}
       → l ≡ lineOf line verdict → i ≡ rowFor names (l .entity) → r ≡ recordIn (getD names i []) (getD numbers i []) → t ≡ talliedOf i r l
-      → row-after ≡ rowOf (t .after)
-      → tableIn (set names i (t .after .entity)) (set numbers i row-after) ≡ noted (tableIn names numbers) line verdict
+      → row-after ≡ rowOf (t .after) → NotedIn names numbers line verdict (set names i (t .after .entity)) (set numbers i row-after)
   unfolding noted
   noted-row line verdict {row-after} {l} {i} {r} {t} is-line at-place is-record is-tally is-row =
-      let counted : t ≡ tallied-at l i = is-tally ∙ ap (λ (x : Record). talliedOf i x l) is-record in
-      (λ j. tableIn (set names i (t .after .entity)) (set numbers i (is-row j)))
-      ∙ (λ j. with-row (counted j .after) i)
-      ∙ (λ j. with-row (tallied-at l (at-place j) .after) (at-place j))
-      ∙ in-row l
-      ∙ ap (λ (x : Line). left (noteOf records (tableIn names numbers .common) x)) is-line
+      let to : Line = lineOf line verdict in
+      let place : i ≡ rowFor names (to .entity) = at-place ∙ ap (λ (x : Line). rowFor names (x .entity)) is-line in
+      let counted : t ≡ tallied-at to (rowFor names (to .entity)) =
+      is-tally ∙ ap (λ (x : Record). talliedOf i x l) is-record ∙ (λ j. tallied-at (is-line j) (place j)) in
+      let names-put : set names i (t .after .entity) ≡ set names (rowFor names (to .entity)) (recordAfter names numbers to .entity) =
+      λ j. set names (place j) (counted j .after .entity) in
+      let numbers-put : set numbers i row-after ≡ set numbers (rowFor names (to .entity)) (rowOf (recordAfter names numbers to)) =
+      λ j. set numbers (place j) ((is-row ∙ ap (λ (u : Tally). rowOf (u .after)) counted) j) in
+      record { names-are = names-put; numbers-are = numbers-put; table-is = (λ j. tableIn (names-put j) (numbers-put j)) ∙ in-row to }

@@ -6,8 +6,8 @@ use Prim.Native.Nat.{ℕ, zero, suc, _<_}
 use native.Mathlib.Omega.{arith}
 use lib.ListN.{length, getD, set, take}
 use Rattle.summary.specs.declared.Record.{Record}
-use Rattle.summary.specs.Noting.{stopsAt, firstStop, free}
-use Rattle.table.specs.Rows.{recordIn, recordsIn, firstName}
+use Rattle.summary.specs.Noting.{stopsAt, firstStop, entityOf, free}
+use Rattle.table.specs.Rows.{recordIn, recordsIn}
 
 pub records-length : (names numbers : List (List ℕ)) → length names ≡ length numbers → length (recordsIn names numbers) ≡ length names
 unfolding recordsIn
@@ -34,8 +34,8 @@ records-set (n ∷ names) (r ∷ numbers) (suc i) name row = ap (λ (rs : List R
 
 -- names are all that the search looks at
 pub same-stop : (e : List ℕ) (n : ℕ) (names numbers : List (List ℕ)) → length names ≡ length numbers
-    → firstStop e (take n (recordsIn names numbers)) ≡ firstName e (take n names)
-unfolding recordsIn firstStop firstName
+    → firstStop entityOf e (take n (recordsIn names numbers)) ≡ firstStop (λ name. name) e (take n names)
+unfolding recordsIn firstStop
 same-stop e zero names numbers h = refl
 same-stop e (suc n) [] numbers h = refl
 same-stop e (suc n) (name ∷ names) [] h = absurd (omega arith)

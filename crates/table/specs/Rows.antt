@@ -1,12 +1,12 @@
 -- A table as rows: the names of its records and their numbers, in step. The last row is the common record's.
-use Prim.Native.Nat.{ℕ, suc, _+_}
+use Prim.Native.Nat.{ℕ, _+_}
 use mathlib.Core.Path.{_≡_}
 use mathlib.Core.Bool.{cond}
 use mathlib.Core.List.{List, [], _∷_}
 use lib.Dec.{ltb}
 use lib.ListN.{length, getD, take, drop}
 use Rattle.summary.specs.declared.Record.{Record}
-use Rattle.summary.specs.Noting.{reachOf, stopsAt}
+use Rattle.summary.specs.Noting.{mostRecords, reachOf, firstStop}
 
 -- the five counts, then one for each code
 abbrev pub recordIn : List ℕ → List ℕ → Record
@@ -35,7 +35,7 @@ pub record Table : Type 0 where
 
 -- so many records, and the common one behind them
 abbrev pub recordCount : ℕ
-recordCount = 256
+recordCount = mostRecords
 
 abbrev pub tableIn : List (List ℕ) → List (List ℕ) → Table
 tableIn names numbers =
@@ -48,14 +48,9 @@ pub record Rows (names numbers : List (List ℕ)) : Type 0 where
   pub named : length names ≡ recordCount + 1
   pub numbered : length numbers ≡ recordCount + 1
 
--- the place of the first name where the search for an entity stops, and how many there are where it does not
-unfoldable pub firstName : List ℕ → List (List ℕ) → ℕ
-firstName e [] = 0
-firstName e (name ∷ names) = cond (stopsAt name e) 0 (suc (firstName e names))
-
 -- the row of an entity's lines: where the search stops, else the common one
 abbrev pub found : List (List ℕ) → List ℕ → ℕ
-found names e = firstName e (take (reachOf recordCount e) names)
+found names e = firstStop (λ name. name) e (take (reachOf recordCount e) names)
 
 unfoldable pub rowFor : List (List ℕ) → List ℕ → ℕ
 rowFor names e = cond (ltb (found names e) (reachOf recordCount e)) (found names e) recordCount

@@ -6,9 +6,10 @@ ghost use mathlib.Core.Path.{_≡_};
 ghost use mathlib.Core.List.{[]};
 ghost use Prim.Native.Nat.{_≤_, _<_};
 ghost use lib.ListN.{length, drop, getD};
-ghost use Rattle.table.specs.Rows.{recordCount, recordIn, rowOf, tableIn, Rows, rowFor};
-ghost use Rattle.table.specs.Noted.{noted, talliedOf};
+ghost use Rattle.table.specs.Rows.{recordCount, recordIn, rowOf, Rows, rowFor};
+ghost use Rattle.table.specs.Noted.{talliedOf, NotedIn};
 use summary::Line;
+use summary::MOST_RECORDS;
 use summary::Record;
 use summary::Tally;
 use summary::counted;
@@ -20,7 +21,7 @@ use verdict::CODE_COUNT;
 use verdict::Verdict;
 
 // Records of entities; the row behind them is the common record's.
-pub const RECORD_COUNT: usize = 256;
+pub const RECORD_COUNT: usize = MOST_RECORDS;
 
 pub const ROW_COUNT: usize = RECORD_COUNT + 1;
 
@@ -109,7 +110,7 @@ fn tallied(row: usize, r: Record, l: Line) -> Tally
 // A line that got the verdict, counted where it belongs.
 pub fn note(names: &mut [[u8; 20]], numbers: &mut [[u32; WIDTH]], line: &[u8], verdict: Verdict)
     requires { ⌜ Rows (now names) (now numbers) ⌝ }
-    ensures { λ r. ⌜ tableIn (now (names .exit)) (now (numbers .exit)) ≡ noted (tableIn (now (names .entry)) (now (numbers .entry))) (now (line .entry)) verdict ⌝ }
+    ensures { λ r. ⌜ NotedIn (now (names .entry)) (now (numbers .entry)) (now (line .entry)) verdict (now (names .exit)) (now (numbers .exit)) ⌝ }
 {
     let l = judged_line(line, verdict);
     let entity = l.entity;

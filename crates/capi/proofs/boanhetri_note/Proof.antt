@@ -57,7 +57,7 @@ use Rattle.summary.specs.declared.Line.{Line}
 use Rattle.summary.specs.declared.Tally.{Tally}
 use Rattle.verdict.specs.declared.Verdict.{Verdict}
 use Rattle.summary.specs.declared.Noted.{Noted}
-use Rattle.summary.proofs.SearchLaws.{Passed, passed-none, Nearer, nearer-ends, reach-within, passed-on, passed-here, passed-all, noting-table, noting-common}
+use Rattle.summary.proofs.SearchLaws.{Passed, passed-none, Nearer, nearer-ends, reach-within, passed-on, stops-here, stops-nowhere, noting-table, noting-common}
 use Rattle.capi.proofs.PlainCall.{calls-plain, calls-sliced}
 use Rattle.summary.proofs.Record as T
 use Rattle.summary.proofs.Record.Laws as T′
@@ -381,7 +381,7 @@ module _ {M : Type 1} (𝓤 : URA M) (H : Heap 𝓤) (A : Atoms 𝓤) (W : Given
             returns-within ! Post refl (look ! 46 refl) $ forget ! 8 refl $ forget ! 10 refl $ forget ! 12 refl $ forget ! 14 refl $ forget ! 16 refl $ forget ! 18 refl $ forget ! 20 refl $ forget ! 22 refl $ forget ! 24 refl $ forget ! 30 refl $ forget ! 32 refl $ forget ! 34 refl $ forget ! 36 refl $ forget ! 38 refl $ forget ! 40 refl $ forget ! 42 refl $ forget ! 44 refl $ forget ! 46 refl $
             move ! (46 ∷ 47 ∷ []) $ free1 ! $ move ! (44 ∷ 45 ∷ []) $ free1 ! $ move ! (42 ∷ 43 ∷ []) $ free1 ! $ move ! (40 ∷ 41 ∷ []) $ free1 ! $ move ! (38 ∷ 39 ∷ []) $ free1 ! $ move ! (36 ∷ 37 ∷ []) $ free1 ! $ move ! (34 ∷ 35 ∷ []) $ free1 ! $ move ! (32 ∷ 33 ∷ []) $ free1 ! $ move ! (30 ∷ 31 ∷ []) $ free1 ! $ move ! (28 ∷ 29 ∷ []) $ free1 ! $ move ! (26 ∷ 27 ∷ []) $ free1 ! $ move ! (24 ∷ 25 ∷ []) $ free1 ! $ move ! (22 ∷ 23 ∷ []) $ free1 ! $ move ! (20 ∷ 21 ∷ []) $ free1 ! $ move ! (18 ∷ 19 ∷ []) $ free1 ! $ move ! (16 ∷ 17 ∷ []) $ free1 ! $ move ! (14 ∷ 15 ∷ []) $ free1 ! $ move ! (12 ∷ 13 ∷ []) $ free1 ! $ move ! (10 ∷ 11 ∷ []) $ free1 ! $ move ! (8 ∷ 9 ∷ []) $ free1 ! $ move ! (6 ∷ 7 ∷ []) $ free1 ! $ free0 ! $
             by ! (exits (set rs (p .place) (u .after)) c (record { common = false; stuck = u .stuck }) (length-set rs (p .place) (u .after))
-            (ends-so (noting-table rs c l (p .place) u (passed-here p n-within (ltb-true _ _ h) (holds _ hit)) (ltb-true _ _ h) made))))))
+            (ends-so (noting-table rs c l (p .place) u (stops-here (p .yet) n-within free (ltb-true _ _ h) (holds _ hit)) (ltb-true _ _ h) made))))))
             -- it does not: the next place
             (λ miss. skips ! $ exec ! C Λ En last (anyQ (afterTurn 𝓤 H (Below 𝓤 H A Nearer At p) Left)) $
             assigns-last ! (bin ! (load ! (from ! (stop !)) (look ! 33 refl)) (lit ! tt) (record { fits = next-fits p (ltb-true _ _ h) })) (from ! (stop !)) (store ! 33 refl (tt, record { fits = next-fits p (ltb-true _ _ h) })) $
@@ -402,7 +402,7 @@ module _ {M : Type 1} (𝓤 : URA M) (H : Heap 𝓤) (A : Atoms 𝓤) (W : Given
             assigns ! (agg ! (and-then ! (true-lit !) (and-then ! (load ! (from ! (fld ! refl (stop !))) (look-in ! 28 (sub ! 1 refl (whole !)))) (no-more !)))) (from ! (stop !)) (init ! 46 refl (tt, (tt, (tt, tt)))) $
             returns ! (look ! 46 refl) $ forget ! 6 refl $ forget ! 24 refl $ forget ! 28 refl $ forget ! 32 refl $ forget ! 34 refl $ forget ! 36 refl $ forget ! 38 refl $ forget ! 40 refl $ forget ! 42 refl $ forget ! 44 refl $ forget ! 46 refl $
             move ! (46 ∷ 47 ∷ []) $ free1 ! $ move ! (44 ∷ 45 ∷ []) $ free1 ! $ move ! (42 ∷ 43 ∷ []) $ free1 ! $ move ! (40 ∷ 41 ∷ []) $ free1 ! $ move ! (38 ∷ 39 ∷ []) $ free1 ! $ move ! (36 ∷ 37 ∷ []) $ free1 ! $ move ! (34 ∷ 35 ∷ []) $ free1 ! $ move ! (32 ∷ 33 ∷ []) $ free1 ! $ move ! (30 ∷ 31 ∷ []) $ free1 ! $ move ! (28 ∷ 29 ∷ []) $ free1 ! $ move ! (26 ∷ 27 ∷ []) $ free1 ! $ move ! (24 ∷ 25 ∷ []) $ free1 ! $ move ! (22 ∷ 23 ∷ []) $ free1 ! $ move ! (20 ∷ 21 ∷ []) $ free1 ! $ move ! (18 ∷ 19 ∷ []) $ free1 ! $ move ! (16 ∷ 17 ∷ []) $ free1 ! $ move ! (14 ∷ 15 ∷ []) $ free1 ! $ move ! (12 ∷ 13 ∷ []) $ free1 ! $ move ! (10 ∷ 11 ∷ []) $ free1 ! $ move ! (8 ∷ 9 ∷ []) $ free1 ! $ move ! (6 ∷ 7 ∷ []) $ free1 ! $ free0 ! $
-            by ! (exits rs (u .after) (record { common = true; stuck = u .stuck }) refl (ends-so (noting-common rs c l u (passed-all p n-within (ltb-false _ _ h)) made)))))))
+            by ! (exits rs (u .after) (record { common = true; stuck = u .stuck }) refl (ends-so (noting-common rs c l u (stops-nowhere (p .yet) n-within (ltb-false _ _ h)) made)))))))
 
         searches : ent 𝓤 (⋆ 𝓤 H A (At passed-none)) (Wp 𝓤 H C Λ En walked-mir.t-5 (atReturn 𝓤 H En Post))
         searches = qed W (At passed-none) ∵ exec ! C Λ En walked-mir.t-5 (atRet En Post) $ first ! $ blocks ! $ loops ! 𝓣 Nearer nearer-ends At (λ p. by ! (turn p)) passed-none

@@ -8,7 +8,7 @@ use borrow.Author.Needs.{needs}
 
 returns : tie.Need-returns
 unfolding judged
-returns c = answered (outcome-counted (called ((c .before .before .before .before .before .before .before .before .before .before .before .before .before .before .before .before .before .before .before .before .before .before .before .before .before .args) .line .now) ((c .before .before .before .before .before .before .before .before .before .before .before .before .before .before .before .before .before .before .before .before .before .before .before .before .before .args) .register .now)) codeCount) ((c .before .before .before .before .before .before .before .before .before .before .before .before .before .before .judge) .ensures) ((c .before .before .before .before .before .before .before .before .note) .ensures) ((c .before .before .before .listed) .ensures) ((c .before .before .keep-answer) .ensures)
+returns c = answered (outcome-counted (called ((c .before .before .before .before .before .before .before .before .before .before .before .before .before .before .before .before .before .before .before .before .before .before .before .before .before .args) .line .now) ((c .before .before .before .before .before .before .before .before .before .before .before .before .before .before .before .before .before .before .before .before .before .before .before .before .before .args) .register .now)) codeCount) ((c .before .before .before .before .before .before .before .before .before .before .before .before .before .before .judge) .ensures) ((c .before .before .before .before .before .before .before .before .note) .ensures .table-is) ((c .before .before .before .listed) .ensures) ((c .before .before .keep-answer) .ensures)
 
 pub answer-spec : {M : Type 1} → statement M
 answer-spec =
