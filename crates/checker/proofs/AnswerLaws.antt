@@ -37,14 +37,17 @@ outcome-counted c room = either (eqb (refusal c room) 0)
     either true = record { count-is = refl; few = omega (arith, pick-short codes (allFlags c), code-count) }
     either false = record { count-is = refl; few = omega arith }
 
+-- the first n entries are what is listed
+pub listed-is : {o : Outcome} {before findings register : List ℕ} {v : Verdict} → Counted o → Judged o before v findings register
+    → take (v .count) findings ≡ o .listed
+listed-is {o} counted e =
+    (λ i. take ((ap (λ (w : Verdict). w .count) (e .says) ∙ counted .count-is) i) ((e .lists) i)) ∙ take-append-seam (o .listed) _
+
 pub answered : {number n : ℕ} {o : Outcome} {line before findings register codes out out' : List ℕ} {table table' : Table} {v : Verdict}
     → Counted o → Judged o before v findings register → table' ≡ noted table line v → codes ≡ take (v .count) findings
     → Kept out 0 (printed number (v .answer) (v .count) codes) out' n → Answered number line o table out out' n register table'
 answered {number} {n} {o} {line} {before} {findings} {register} {codes} {out} {out'} {table} {table'} {v} counted e added listed p =
-    let same : codes ≡ o .listed =
-    listed
-    ∙ (λ i. take ((ap (λ (w : Verdict). w .count) (e .says) ∙ counted .count-is) i) ((e .lists) i))
-    ∙ take-append-seam (o .listed) _ in
+    let same : codes ≡ o .listed = listed ∙ listed-is counted e in
     let same-text : printed number (v .answer) (v .count) codes ≡ printed number (o .verdict .answer) (o .verdict .count) (o .listed) =
     λ i. printed number ((e .says) i .answer) ((e .says) i .count) (same i) in
     record {

@@ -6,5 +6,6 @@ mod ProgressLaws
 mod Enough
 mod TableLaws
 mod Program
+mod Day
 mod Example
 mod Setting

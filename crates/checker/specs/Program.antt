@@ -6,6 +6,7 @@ use mathlib.Core.List.{List, [], _∷_, _++_}
 use lib.ListN.{drop}
 use Rattle.verdict.specs.Codes.{codeCount}
 use Rattle.judge.specs.Outcome.{Outcome, outcome}
+use Rattle.day.specs.Summary.{Handed}
 use Rattle.table.specs.Rows.{Table}
 use Rattle.table.specs.Noted.{noted, emptyTable}
 use Rattle.checker.specs.Setting.{emptyRegister, called}
@@ -38,3 +39,13 @@ tableAfter input = notes emptyRegister emptyTable (drop 1 (linesOf input))
 -- all that is written where the summary is asked for
 abbrev pub programReports : List ℕ → List ℕ
 programReports input = programWrites input ++ summaryText (tableAfter input)
+
+-- the lines as the history of a day, the latest first, each with its verdict and its codes
+unfoldable pub historyFrom : List Handed → List ℕ → List (List ℕ) → List Handed
+historyFrom earlier register [] = earlier
+historyFrom earlier register (line ∷ lines) =
+    historyFrom (record { line = line; verdict = judged line register .verdict; findings = judged line register .listed } ∷ earlier)
+    (judged line register .register) lines
+
+abbrev pub historyOf : List ℕ → List Handed
+historyOf input = historyFrom [] emptyRegister (drop 1 (linesOf input))
