@@ -209,11 +209,15 @@ pub fn reach(room: usize, entity: [u8; 20]) -> usize
     }
 }
 
-// The search for `entity` stops at a record of the entity `name`: it is free, or its own.
+// The search for `entity` stops at a record of the entity `name`: it is free, or its own. Most records are passed, and with its own asked
+// first and a way out between the two the compiler passes them in the fewest steps.
 pub fn stops(name: [u8; 20], entity: [u8; 20]) -> bool
     ensures { λ r. ⌜ r ≡ stopsAt name entity ⌝ }
 {
-    is_blank(&name) | text::same(&name, &entity)
+    if text::same(&name, &entity) {
+        return true;
+    }
+    is_blank(&name)
 }
 
 fn first_cell(line: &[u8]) -> &[u8]
