@@ -209,8 +209,8 @@ pub fn reach(room: usize, entity: [u8; 20]) -> usize
     }
 }
 
-// The search for `entity` stops at a record of the entity `name`: it is free, or its own. Most records are passed, and with its own asked
-// first and a way out between the two the compiler passes them in the fewest steps.
+// The search for `entity` stops at a record of the entity `name`: it is free, or its own. Of the forms that were counted, this one passes a
+// record in the fewest instructions (docs/PACE.md).
 pub fn stops(name: [u8; 20], entity: [u8; 20]) -> bool
     ensures { λ r. ⌜ r ≡ stopsAt name entity ⌝ }
 {
