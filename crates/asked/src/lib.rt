@@ -3,7 +3,7 @@ ghost use mathlib.Core.Path.{_≡_};
 ghost use mathlib.Core.Bool.{_&&_, _||_};
 ghost use Rattle.cells.specs.Split.{Tabled};
 ghost use Rattle.lists.specs.Lookups.{countryKnown};
-ghost use Rattle.facts.specs.Words.{momentIn, leiGood, kind1, kind3};
+ghost use Rattle.facts.specs.Words.{momentIn, partyLeiGood, kind1, kind3};
 ghost use Rattle.facts.specs.Asked.{leiFit, partyAsked, partiesAsked, entityAsked, moneyAsked, askedOf};
 use facts::Asked;
 use facts::EntityAsked;
@@ -23,20 +23,27 @@ pub fn lei_fit(lei: &[u8], s: &[u8], day: u32) -> LeiFit
         return LeiFit {
             unlapsed: rows.unlapsed,
             any: rows.any,
+            whenever: rows.whenever,
         };
     }
     LeiFit {
         unlapsed: false,
         any: false,
+        whenever: false,
     }
 }
 
-// A CONCAT is as long as a LEI, so the list is read only where the kind is right.
-fn lei_asked(is_lei: bool, lei: &[u8], part: &[u8], day: u32) -> bool
-    ensures { λ r. ⌜ r ≡ («is_lei» && leiGood (now (lei .entry)) (now (part .entry)) day) ⌝ }
+// A CONCAT is as long as a LEI, so the list is read only where the kind is right. For parties two sets of conditions stand side by side, chosen
+// by the day of the trade: until 2 July 2018 the day of registration is not asked for.
+fn lei_asked(is_lei: bool, lei: &[u8], part: &[u8], t: u32) -> bool
+    ensures { λ r. ⌜ r ≡ («is_lei» && partyLeiGood (now (lei .entry)) (now (part .entry)) t) ⌝ }
 {
     if is_lei {
-        return lei_fit(lei, part, day).any;
+        let fit = lei_fit(lei, part, t);
+        if t <= 20180702 {
+            return fit.whenever;
+        }
+        return fit.any;
     }
     false
 }

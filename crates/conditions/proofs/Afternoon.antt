@@ -36,7 +36,7 @@ use Rattle.cfi.specs.Table.{spaced, textOf, rowsFrom as rowsFrom-cfi, matchesIn
 use Rattle.facts.specs.Rules.{goodCells, pairStands, holdings, flags, polishFlags, allFlags}
 use Rattle.baskets.specs.Items.{inFront, allRight}
 use Rattle.baskets.specs.Underlying.{kindNamed}
-use Rattle.facts.specs.Words.{momentOf, dayOf, leiGoodUnlapsed, leiGood, leiWrong, countryWrong, partyLeiWrong, partyCountryWrong, partyMicWrong, partyShapeWrong, birthWrong, isLate, isPast, isEntity, currencyWrong, quantityCurrencyWrong, secondCurrency, isinWrong, notBefore, tooOld, heldWord, heldQuantity, heldPrice, heldSwap}
+use Rattle.facts.specs.Words.{momentOf, dayOf, leiGoodUnlapsed, leiGood, leiWrong, countryWrong, partyLeiGood, partyLeiWrong, partyCountryWrong, partyMicWrong, partyShapeWrong, birthWrong, isLate, isPast, isEntity, currencyWrong, quantityCurrencyWrong, secondCurrency, isinWrong, notBefore, tooOld, heldWord, heldQuantity, heldPrice, heldSwap}
 use Rattle.verdict.specs.Codes.{ruleCodes, formCodes, polishCodes, codes, codeCount}
 use Rattle.verdict.specs.Verdict.{wordOf, pick, verdictOf, refusedBy}
 use Rattle.judge.specs.Outcome.{Outcome, written, outcome}
@@ -51,7 +51,7 @@ step day line register o run e =
 
 -- each call
 pub afternoon : Afternoon
-unfolding allOf firstFrom digitOf numeral numberOf twoDigits fourDigits suits shape startsWith same among oneOf dayWritten leap monthLength isDay fiveYearsBefore isTime isEnding microWritten isMomentCell whenOf isMoment named wellFormed identifierOf partyWith valueOf digitsOf writtenDigits decimal pointAt whole decimals isDecimal withoutLastZeros fewestDecimals valueOf-amount tagged priceOf quantityOf cellsOf cell statusOf formFinding formFindings holds formOf framedAs chunks rowsFrom some version dayWidth used capacity framed full isUsed filled pairBytes rowsIn ownFrom look firstRow standing restated appended put setCancelled undated inVersion2 conversionAnswer converted words rules any matches broken violated spaced textOf rowsFrom-cfi matchesIn rowBroken marked goodCells pairStands holdings flags polishFlags momentOf dayOf leiGoodUnlapsed leiGood leiWrong countryWrong partyLeiWrong partyCountryWrong partyMicWrong partyShapeWrong birthWrong isLate isPast isEntity currencyWrong quantityCurrencyWrong secondCurrency isinWrong notBefore tooOld heldWord heldQuantity heldPrice heldSwap inFront allRight kindNamed ruleCodes formCodes polishCodes codes wordOf pick verdictOf refusedBy written outcome allFlags clean noRoom refusal
+unfolding allOf firstFrom digitOf numeral numberOf twoDigits fourDigits suits shape startsWith same among oneOf dayWritten leap monthLength isDay fiveYearsBefore isTime isEnding microWritten isMomentCell whenOf isMoment named wellFormed identifierOf partyWith valueOf digitsOf writtenDigits decimal pointAt whole decimals isDecimal withoutLastZeros fewestDecimals valueOf-amount tagged priceOf quantityOf cellsOf cell statusOf formFinding formFindings holds formOf framedAs chunks rowsFrom some version dayWidth used capacity framed full isUsed filled pairBytes rowsIn ownFrom look firstRow standing restated appended put setCancelled undated inVersion2 conversionAnswer converted words rules any matches broken violated spaced textOf rowsFrom-cfi matchesIn rowBroken marked goodCells pairStands holdings flags polishFlags momentOf dayOf leiGoodUnlapsed leiGood leiWrong countryWrong partyLeiGood partyLeiWrong partyCountryWrong partyMicWrong partyShapeWrong birthWrong isLate isPast isEntity currencyWrong quantityCurrencyWrong secondCurrency isinWrong notBefore tooOld heldWord heldQuantity heldPrice heldSwap inFront allRight kindNamed ruleCodes formCodes polishCodes codes wordOf pick verdictOf refusedBy written outcome allFlags clean noRoom refusal
 afternoon =
     record {
       too-early = refl;

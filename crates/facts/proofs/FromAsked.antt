@@ -13,7 +13,7 @@ use Rattle.forms.specs.Read.{readOf}
 use Rattle.lists.specs.Lookups.{countryKnown, venueRows, instrumentRows}
 use Rattle.lists.proofs.CfiLaws.{debt-violates, bond-violates}
 use Rattle.facts.specs.Call.{Call}
-use Rattle.facts.specs.Words.{present, off, momentIn, momentOf, dayOf, leiGood, countryWrong, kind1, kind3, kindOf, partIn, partyLeiWrong, partyCountryWrong, partyMicWrong, partyShapeWrong, birthWrong, isLate, isPast, isEntity, isinWrong}
+use Rattle.facts.specs.Words.{present, off, momentIn, momentOf, dayOf, partyLeiGood, countryWrong, kind1, kind3, kindOf, partIn, partyLeiWrong, partyCountryWrong, partyMicWrong, partyShapeWrong, birthWrong, isLate, isPast, isEntity, isinWrong}
 use Rattle.facts.specs.Asked.{partyAsked, partiesAsked, askedOf}
 use Rattle.facts.specs.Rules.{T, standingOf, holdings}
 use Rattle.facts.specs.Facts.{partyFrom, partyFactsOf, partiesFrom, partiesOf, timeFrom, timeOf, tradeWith, tradeFrom, tradeOf, factsWith, factsFrom, askedIn, factsOf}
@@ -30,7 +30,7 @@ unfolding partyFrom partyAsked partyFactsOf partyLeiWrong partyCountryWrong coun
 party-from allowed lei cty ven s date entity t =
     let part = partIn allowed s in
     λ i. record {
-      lei = only (isLei (kindOf allowed s)) not (leiGood lei part t) i;
+      lei = only (isLei (kindOf allowed s)) not (partyLeiGood lei part t) i;
       country = only (isPerson (kindOf allowed s)) (λ x. present (countryOf part) && not x) (countryKnown cty (countryOf part) t) i;
       mic = only (isMic (kindOf allowed s)) (λ x. off part || not x) (kind1 ven part t || kind3 ven part t) i;
       birth = birthWrong allowed s date;

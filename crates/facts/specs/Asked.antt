@@ -14,16 +14,16 @@ use Rattle.facts.specs.declared.answers.PartiesAsked.{PartiesAsked}
 use Rattle.facts.specs.declared.answers.EntityAsked.{EntityAsked}
 use Rattle.facts.specs.declared.answers.MoneyAsked.{MoneyAsked}
 use Rattle.facts.specs.declared.answers.Asked.{Asked}
-use Rattle.facts.specs.Words.{leiGoodUnlapsed, leiGood, kind1, kind3, secondCurrency}
+use Rattle.facts.specs.Words.{leiGoodUnlapsed, leiGood, leiGoodWhenever, partyLeiGood, kind1, kind3, secondCurrency}
 
 unfoldable pub leiFit : List ℕ → List ℕ → ℕ → LeiFit
-leiFit lei s day = record { unlapsed = leiGoodUnlapsed lei s day; any = leiGood lei s day }
+leiFit lei s day = record { unlapsed = leiGoodUnlapsed lei s day; any = leiGood lei s day; whenever = leiGoodWhenever lei s day }
 
 -- a list is read only for the kind of party that it is of
 unfoldable pub partyAsked : Party → List ℕ → List ℕ → List ℕ → List ℕ → ℕ → PartyAsked
 partyAsked party s lei cty ven day =
     record {
-      lei = isLei (party .identifier) && leiGood lei (partOf (party .identifier) s) day;
+      lei = isLei (party .identifier) && partyLeiGood lei (partOf (party .identifier) s) day;
       country = isPerson (party .identifier) && countryKnown cty (countryOf (partOf (party .identifier) s)) day;
       mic = isMic (party .identifier) && (kind1 ven (partOf (party .identifier) s) day || kind3 ven (partOf (party .identifier) s) day);
     }

@@ -3,7 +3,7 @@ use Prim.Native.Nat.{ℕ}
 use Prim.Native.String.{String}
 use mathlib.Core.Bool.{Bool, true, false, cond, not, _&&_, _||_}
 use mathlib.Core.List.{List, []}
-use lib.Dec.{eqb, ltb}
+use lib.Dec.{eqb, leb, ltb}
 use lib.ListN.{drop}
 use Rattle.text.specs.Ascii.{ascii}
 use Rattle.text.specs.Word.{blank, same, startsWith, oneOf}
@@ -75,12 +75,19 @@ isCancelled Cancelled = true
 isCancelled Absent = false
 isCancelled Live = false
 
--- LEI good on a day: remainder 1 by 97, and a row with status 1, 3 or 4; with any of 1 to 4
+-- LEI good on a day: remainder 1 by 97, and a row with status 1, 3 or 4; with any of 1 to 4; with any of these, whenever registered
 unfoldable pub leiGoodUnlapsed : List ℕ → List ℕ → ℕ → Bool
 leiGoodUnlapsed lei s day = leiRight s && leiRows lei s day .unlapsed
 
 unfoldable pub leiGood : List ℕ → List ℕ → ℕ → Bool
 leiGood lei s day = leiRight s && leiRows lei s day .any
+
+unfoldable pub leiGoodWhenever : List ℕ → List ℕ → ℕ → Bool
+leiGoodWhenever lei s day = leiRight s && leiRows lei s day .whenever
+
+-- of a party on T: until 2018-07-02 whenever registered, from 2018-07-03 on only if registered by T
+unfoldable pub partyLeiGood : List ℕ → List ℕ → ℕ → Bool
+partyLeiGood lei s t = cond (leb t 20180702) (leiGoodWhenever lei s t) (leiGood lei s t)
 
 -- present, and no good LEI
 unfoldable pub leiWrong : List ℕ → List ℕ → ℕ → Bool
@@ -109,7 +116,7 @@ partIn allowed s = partOf (kindOf allowed s) s
 
 -- 070: a LEI that is not good
 unfoldable pub partyLeiWrong : Allowed → List ℕ → List ℕ → ℕ → Bool
-partyLeiWrong allowed lei s day = isLei (kindOf allowed s) && not (leiGood lei (partIn allowed s) day)
+partyLeiWrong allowed lei s t = isLei (kindOf allowed s) && not (partyLeiGood lei (partIn allowed s) t)
 
 -- 071: a person whose first two characters, if both capitals, are no country
 unfoldable pub partyCountryWrong : Allowed → List ℕ → List ℕ → ℕ → Bool

@@ -4,7 +4,9 @@ use mathlib.Core.Bool.{Bool, true, false, true≢false, or-true}
 use mathlib.Core.Logic.{⊎-elim}
 use mathlib.Core.List.{List, [], _∷_, List·Memᴰ, List·Memᴰ·head, List·Memᴰ·tail, List·Memᴰ·not-nil, List·Memᴰ·cases-cons}
 use Prim.Native.Nat.{ℕ}
-use Rattle.text.proofs.Bools.{or-cases}
+use Rattle.text.proofs.Bools.{and-left, and-right, or-cases}
+use lib.ListN.{take}
+use Rattle.text.specs.Word.{same}
 use Rattle.lists.specs.Rows.{rowsOf, some, keyed, someRow}
 
 abbrev pub Row : Type 0
@@ -51,6 +53,15 @@ module _ (width k : ℕ) (key : List ℕ) (test : Row → Bool) (list more : Lis
   some-mono w e =
       let p = some-row (keyed k key test) (rowsOf width list) e in
       row-some (keyed k key test) (rowsOf width more) (p .row) (w (p .row) (p .among)) (p .good)
+
+-- what passes a test passes a weaker one
+pub some-weaker : (width k : ℕ) (key : List ℕ) (test weaker : Row → Bool) (list : List ℕ) → ((row : Row) → test row ≡ true → weaker row ≡ true)
+    → someRow width k key test list ≡ true → someRow width k key weaker list ≡ true
+some-weaker width k key test weaker list w e =
+    let p = some-row (keyed k key test) (rowsOf width list) e in
+    let mine = same key (take k (p .row)) in
+    row-some (keyed k key weaker) (rowsOf width list) (p .row) (p .among)
+    (rw (and-left mine _ (p .good), w (p .row) (and-right mine _ (p .good))))
 
 -- two lists of the same rows, in any order and number, say the same
 pub some-order : (width k : ℕ) (key : List ℕ) (test : Row → Bool) (list other : List ℕ)

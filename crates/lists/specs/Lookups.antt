@@ -11,15 +11,20 @@ use Rattle.lists.specs.declared.lookups.VenueRows.{VenueRows}
 use Rattle.lists.specs.declared.lookups.InstrumentRows.{InstrumentRows}
 use Rattle.lists.specs.Table.{keyWidth, rowWidth}
 use Rattle.lists.specs.Rows.{someRow}
-use Rattle.lists.specs.Row.{unlapsed, anyStatus, leiServes, countryOn, currentOn, preEuro, venueOn, listedOn, cfiOf, cfiOn}
+use Rattle.lists.specs.Row.{unlapsed, anyStatus, leiStands, leiServes, countryOn, currentOn, preEuro, venueOn, listedOn, cfiOf, cfiOn}
 
 -- some row of the list of this mark with this key passes the test
 abbrev pub someIn : Mark → List ℕ → List ℕ → (List ℕ → Bool) → Bool
 someIn mark list key test = someRow (rowWidth mark) (keyWidth mark) key test list
 
--- with status 1, 3 or 4; with any of 1 to 4
+-- with status 1, 3 or 4; with any of 1 to 4; with any of these, whenever registered
 abbrev pub leiRows : List ℕ → List ℕ → ℕ → LeiRows
-leiRows list key day = record { unlapsed = someIn Lei list key (leiServes unlapsed day); any = someIn Lei list key (leiServes anyStatus day) }
+leiRows list key day =
+    record {
+      unlapsed = someIn Lei list key (leiServes unlapsed day);
+      any = someIn Lei list key (leiServes anyStatus day);
+      whenever = someIn Lei list key (leiStands anyStatus day);
+    }
 
 abbrev pub countryKnown : List ℕ → List ℕ → ℕ → Bool
 countryKnown list key day = someIn Cty list key (countryOn day)

@@ -6,7 +6,7 @@ use mathlib.Core.List.{List}
 use Rattle.lists.specs.declared.frame.Mark.{Mark}
 use Rattle.lists.specs.declared.frame.Mark.the-variants.{Lei, Cty, Ccy, Ven, Ins}
 use Rattle.lists.specs.declared.rows.Answers.{Answers}
-use Rattle.lists.specs.Row.{unlapsed, anyStatus, leiServes, countryOn, currentOn, preEuro, venueOn, listedOn, cfiOn}
+use Rattle.lists.specs.Row.{unlapsed, anyStatus, leiStands, leiServes, countryOn, currentOn, preEuro, venueOn, listedOn, cfiOn}
 use Rattle.lists.specs.Lookups.{someIn}
 
 abbrev pub first : Mark → ℕ → List ℕ → Bool
@@ -24,7 +24,7 @@ second Ven day = venueOn 2 day
 second Ins day = cfiOn 330 day
 
 abbrev pub third : Mark → ℕ → List ℕ → Bool
-third Lei day = leiServes anyStatus day
+third Lei day = leiStands anyStatus day
 third Cty day = countryOn day
 third Ccy day = preEuro
 third Ven day = venueOn 3 day

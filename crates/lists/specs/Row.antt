@@ -26,10 +26,13 @@ unlapsed status = eqb status 1 || eqb status 3 || eqb status 4
 abbrev pub anyStatus : ℕ → Bool
 anyStatus status = leb 1 status && leb status 4
 
--- a status of the set, registered by the day, and active (1), or inactive (2) with update on or after the day
+-- a status of the set, and active (1), or inactive (2) with update on or after the day; whenever it was registered
+abbrev pub leiStands : (ℕ → Bool) → ℕ → List ℕ → Bool
+leiStands statuses day row = statuses (byteAt 20 row) && (eqb (byteAt 21 row) 1 || eqb (byteAt 21 row) 2 && leb day (dayAt 26 row))
+
+-- the same, and registered by the day
 abbrev pub leiServes : (ℕ → Bool) → ℕ → List ℕ → Bool
-leiServes statuses day row =
-    statuses (byteAt 20 row) && (leb (dayAt 22 row) day && (eqb (byteAt 21 row) 1 || eqb (byteAt 21 row) 2 && leb day (dayAt 26 row)))
+leiServes statuses day row = leiStands statuses day row && leb (dayAt 22 row) day
 
 -- CTY: 2 key, from, to
 abbrev pub countryOn : ℕ → List ℕ → Bool

@@ -7,10 +7,11 @@ use crate::scan::instrument_list_says;
 use crate::scan::lei_list_says;
 use crate::scan::venue_list_says;
 
-// Some row serves on the day: with status 1, 3 or 4, and with any of 1 to 4.
+// Some row serves on the day: with status 1, 3 or 4; with any of 1 to 4; with any of these, whenever it was registered.
 pub struct LeiRows {
     pub unlapsed: bool,
     pub any: bool,
+    pub whenever: bool,
 }
 
 pub struct CurrencyRows {
@@ -39,6 +40,7 @@ pub fn lei_rows(list: &[u8], key: &[u8], day: u32) -> LeiRows
     LeiRows {
         unlapsed: says.first,
         any: says.second,
+        whenever: says.third,
     }
 }
 

@@ -32,13 +32,13 @@ pub fn lei_says(row: &[u8], day: u32) -> Answers
     let entity = byte_at(row, 21);
     let registered = le32(row, 22) <= day;
     let updated = day <= le32(row, 26);
-    let serves = registered & ((entity == 1) | (entity == 2) & updated);
+    let acts = (entity == 1) | (entity == 2) & updated;
     let unlapsed = (status == 1) | (status == 3) | (status == 4);
     let any = (1 <= status) & (status <= 4);
     Answers {
-        first: unlapsed & serves,
-        second: any & serves,
-        third: any & serves,
+        first: unlapsed & acts & registered,
+        second: any & acts & registered,
+        third: any & acts,
     }
 }
 

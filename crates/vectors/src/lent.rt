@@ -38,7 +38,7 @@ fn looked_up(mark: Mark, list: &[u8], key: &[u8], day: u32) -> u64 {
     match mark {
         Mark::Lei => {
             let r = lists::lei_rows(list, key, day);
-            digits(false, r.unlapsed, r.any)
+            digits(r.unlapsed, r.any, r.whenever)
         }
         Mark::Cty => digits(false, false, lists::country_known(list, key, day)),
         Mark::Ccy => {

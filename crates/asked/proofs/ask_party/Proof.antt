@@ -4,7 +4,7 @@ use mathlib.Core.Path.{_∙_, ap}
 use mathlib.Core.Bool.{_&&_, _||_}
 use Rattle.ident.specs.Person.{countryOf}
 use Rattle.lists.specs.Lookups.{countryKnown}
-use Rattle.facts.specs.Words.{leiGood, kind1, kind3}
+use Rattle.facts.specs.Words.{partyLeiGood, kind1, kind3}
 use Rattle.facts.specs.Asked.{partyAsked}
 use borrow.Author.Needs.{needs}
 
@@ -14,7 +14,7 @@ returns c =
     let a = (c .before .before .before .before .before .before .before .before .before .before .before .before .args) in
     let part = (c .before .before .before .before .before .before .before .part-of) .ensures in
     λ i. record {
-      lei = ((c .before .before .before .before .before .lei-asked) .ensures ∙ (λ j. (c .before .before .before .before .before .before .is-lei) .ensures j && leiGood (a .lei .now) (part j) (a .day))) i;
+      lei = ((c .before .before .before .before .before .lei-asked) .ensures ∙ (λ j. (c .before .before .before .before .before .before .is-lei) .ensures j && partyLeiGood (a .lei .now) (part j) (a .day))) i;
       country = ((c .before .before .country-asked) .ensures ∙ (λ j. (c .before .before .before .before .is-person) .ensures j && countryKnown (a .cty .now) (((c .before .before .before .country-of) .ensures ∙ ap countryOf part) j) (a .day))) i;
       mic = ((c .mic-asked) .ensures ∙ (λ j. (c .before .is-mic) .ensures j && (kind1 (a .ven .now) (part j) (a .day) || kind3 (a .ven .now) (part j) (a .day)))) i;
     }
