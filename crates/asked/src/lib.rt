@@ -23,27 +23,35 @@ pub fn lei_fit(lei: &[u8], s: &[u8], day: u32) -> LeiFit
         return LeiFit {
             unlapsed: rows.unlapsed,
             any: rows.any,
-            whenever: rows.whenever,
         };
     }
     LeiFit {
         unlapsed: false,
         any: false,
-        whenever: false,
     }
 }
 
-// A CONCAT is as long as a LEI, so the list is read only where the kind is right. For parties two sets of conditions stand side by side, chosen
-// by the day of the trade: until 2 July 2018 the day of registration is not asked for.
+// For parties two sets of conditions stand side by side, chosen by the day of the trade: until 2 July 2018 the day of registration is not
+// asked for.
+fn party_lei_good(lei: &[u8], s: &[u8], t: u32) -> bool
+    ensures { λ r. ⌜ r ≡ partyLeiGood (now (lei .entry)) (now (s .entry)) t ⌝ }
+{
+    if ident::lei_right(s) {
+        let rows = lists::lei_rows(lei, s, t);
+        if t <= 20180702 {
+            return rows.whenever;
+        }
+        return rows.any;
+    }
+    false
+}
+
+// A CONCAT is as long as a LEI, so the list is read only where the kind is right.
 fn lei_asked(is_lei: bool, lei: &[u8], part: &[u8], t: u32) -> bool
     ensures { λ r. ⌜ r ≡ («is_lei» && partyLeiGood (now (lei .entry)) (now (part .entry)) t) ⌝ }
 {
     if is_lei {
-        let fit = lei_fit(lei, part, t);
-        if t <= 20180702 {
-            return fit.whenever;
-        }
-        return fit.any;
+        return party_lei_good(lei, part, t);
     }
     false
 }

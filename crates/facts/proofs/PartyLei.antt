@@ -9,36 +9,40 @@ use borrow.Author.Tests.{le-leb, lt-leb}
 use Rattle.text.proofs.Bools.{and-left, and-right}
 use Rattle.ident.specs.Codes.{leiRight}
 use Rattle.lists.specs.declared.frame.Mark.the-variants.{Lei}
-use Rattle.lists.specs.Row.{dayAt, anyStatus, leiStands}
+use Rattle.lists.specs.Row.{dayAt, anyStatus, leiStands, leiServes}
 use Rattle.lists.specs.Table.{keyWidth, rowWidth}
-use Rattle.lists.specs.Lookups.{someIn}
+use Rattle.lists.specs.Lookups.{someIn, leiRows}
 use Rattle.lists.proofs.SomeLaws.{some-weaker}
-use Rattle.facts.specs.Words.{leiGood, leiGoodWhenever, partyLeiGood}
+use Rattle.facts.specs.Words.{leiGood, partyLeiGood}
 
 module _ (lei s : List ℕ) (t : ℕ) where
-  pub until-2-july : t ≤ 20180702 → partyLeiGood lei s t ≡ leiGoodWhenever lei s t
+  pub until-2-july : t ≤ 20180702 → partyLeiGood lei s t ≡ (leiRight s && leiRows lei s t .whenever)
   unfolding partyLeiGood
   until-2-july h = rw (le-leb t 20180702 h)
 
   pub from-3-july : 20180703 ≤ t → partyLeiGood lei s t ≡ leiGood lei s t
-  unfolding partyLeiGood
+  unfolding partyLeiGood leiGood
   from-3-july h = rw (lt-leb t 20180702 (omega (arith, h)))
 
-  -- remainder 1 by 97, and some row has it with status 1 to 4, is active or inactive with update on or after T, and, but until
-  -- 2018-07-02, is registered by T
-  pub row-by-row : partyLeiGood lei s t ≡ (leiRight s && someIn Lei lei s (λ row. leiStands anyStatus t row && (leb t 20180702 || leb (dayAt 22 row) t)))
-  unfolding partyLeiGood leiGoodWhenever leiGood
-  row-by-row = chosen (leb t 20180702)
+  -- registered by the day, where that is asked for
+  abbrev stands : Bool → List ℕ → Bool
+  stands free row = leiStands anyStatus t row && (free || leb (dayAt 22 row) t)
+
+  -- remainder 1 by 97, and some row has it with status 1 to 4, is active or inactive with update on or after T, and is registered by T
+  -- where T is not until 2018-07-02
+  pub row-by-row : partyLeiGood lei s t ≡ (leiRight s && someIn Lei lei s (stands (leb t 20180702)))
+  unfolding partyLeiGood
+  row-by-row = λ i. leiRight s && chosen (leb t 20180702) i
     where
-      chosen : (until : Bool)
-          → cond until (leiGoodWhenever lei s t) (leiGood lei s t) ≡ (leiRight s && someIn Lei lei s (λ row. leiStands anyStatus t row && (until || leb (dayAt 22 row) t)))
-      chosen true = λ i. leiRight s && someIn Lei lei s (λ row. sym (and-true (leiStands anyStatus t row)) i)
+      chosen : (free : Bool) → cond free (leiRows lei s t .whenever) (leiRows lei s t .any) ≡ someIn Lei lei s (stands free)
+      chosen true = λ i. someIn Lei lei s (λ row. sym (and-true (leiStands anyStatus t row)) i)
       chosen false = refl
 
   -- whoever has no finding with the registration date has none without
   pub still-good : leiGood lei s t ≡ true → partyLeiGood lei s t ≡ true
   unfolding leiGood
   still-good e =
+      let weaker : (row : List ℕ) → leiServes anyStatus t row ≡ true → stands (leb t 20180702) row ≡ true =
+      λ row r. rw (and-left (leiStands anyStatus t row) _ r, and-right (leiStands anyStatus t row) _ r) (or-true (leb t 20180702)) in
       rw (row-by-row, and-left (leiRight s) _ e)
-      (some-weaker (rowWidth Lei) (keyWidth Lei) s (λ row. leiStands anyStatus t row && leb (dayAt 22 row) t) (λ row. leiStands anyStatus t row && (leb t 20180702 || leb (dayAt 22 row) t)) lei (λ row r. rw (and-left (leiStands anyStatus t row) _ r, and-right (leiStands anyStatus t row) _ r) (or-true (leb t 20180702)))
-      (and-right (leiRight s) _ e))
+      (some-weaker (rowWidth Lei) (keyWidth Lei) s (leiServes anyStatus t) (stands (leb t 20180702)) lei weaker (and-right (leiRight s) _ e))

@@ -14,10 +14,10 @@ use Rattle.facts.specs.declared.answers.PartiesAsked.{PartiesAsked}
 use Rattle.facts.specs.declared.answers.EntityAsked.{EntityAsked}
 use Rattle.facts.specs.declared.answers.MoneyAsked.{MoneyAsked}
 use Rattle.facts.specs.declared.answers.Asked.{Asked}
-use Rattle.facts.specs.Words.{leiGoodUnlapsed, leiGood, leiGoodWhenever, partyLeiGood, kind1, kind3, secondCurrency}
+use Rattle.facts.specs.Words.{leiGoodUnlapsed, leiGood, partyLeiGood, kind1, kind3, secondCurrency}
 
 unfoldable pub leiFit : List ℕ → List ℕ → ℕ → LeiFit
-leiFit lei s day = record { unlapsed = leiGoodUnlapsed lei s day; any = leiGood lei s day; whenever = leiGoodWhenever lei s day }
+leiFit lei s day = record { unlapsed = leiGoodUnlapsed lei s day; any = leiGood lei s day }
 
 -- a list is read only for the kind of party that it is of
 unfoldable pub partyAsked : Party → List ℕ → List ℕ → List ℕ → List ℕ → ℕ → PartyAsked

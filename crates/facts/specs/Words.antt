@@ -75,19 +75,16 @@ isCancelled Cancelled = true
 isCancelled Absent = false
 isCancelled Live = false
 
--- LEI good on a day: remainder 1 by 97, and a row with status 1, 3 or 4; with any of 1 to 4; with any of these, whenever registered
+-- LEI good on a day: remainder 1 by 97, and a row with status 1, 3 or 4; with any of 1 to 4
 unfoldable pub leiGoodUnlapsed : List ℕ → List ℕ → ℕ → Bool
 leiGoodUnlapsed lei s day = leiRight s && leiRows lei s day .unlapsed
 
 unfoldable pub leiGood : List ℕ → List ℕ → ℕ → Bool
 leiGood lei s day = leiRight s && leiRows lei s day .any
 
-unfoldable pub leiGoodWhenever : List ℕ → List ℕ → ℕ → Bool
-leiGoodWhenever lei s day = leiRight s && leiRows lei s day .whenever
-
--- of a party on T: until 2018-07-02 whenever registered, from 2018-07-03 on only if registered by T
+-- of a party on T: until 2018-07-02 whenever registered, from 2018-07-03 on as above
 unfoldable pub partyLeiGood : List ℕ → List ℕ → ℕ → Bool
-partyLeiGood lei s t = cond (leb t 20180702) (leiGoodWhenever lei s t) (leiGood lei s t)
+partyLeiGood lei s t = leiRight s && cond (leb t 20180702) (leiRows lei s t .whenever) (leiRows lei s t .any)
 
 -- present, and no good LEI
 unfoldable pub leiWrong : List ℕ → List ℕ → ℕ → Bool

@@ -3,11 +3,10 @@ use lists::CurrencyRows;
 use lists::InstrumentRows;
 use lists::VenueRows;
 
-// A LEI is good on a day: for status 1, 3 or 4; for any of 1 to 4; for any of these, whenever it was registered.
+// A LEI is good on a day: for status 1, 3 or 4, and for any of 1 to 4.
 pub struct LeiFit {
     pub unlapsed: bool,
     pub any: bool,
-    pub whenever: bool,
 }
 
 // Of a party: its LEI is good, its person's country is known, its MIC is of kind 1 or 3. A list is read only for the kind that it is of.
