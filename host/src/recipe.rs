@@ -12,6 +12,7 @@ mod days;
 mod draft;
 mod kinds;
 mod polish;
+mod regimes;
 pub(crate) mod registers;
 pub(crate) mod rng;
 mod rules;
@@ -67,10 +68,11 @@ pub struct Recipe {
     maker: Maker,
     /// Cases made so far.
     made: usize,
-    /// Aims, days at the edge of 281, patterns, clean lines, mistakes in cells 47 and 49, Polish identifiers and
-    /// registers take turns.
+    /// Aims, days at the edge of 281, LEIs round 2 July 2018, patterns, clean lines, mistakes in cells 47 and 49, Polish
+    /// identifiers and registers take turns.
     aims: usize,
     ages: usize,
+    regimes: usize,
     patterns: usize,
     kinds: usize,
     mistakes: usize,
@@ -83,7 +85,7 @@ pub struct Recipe {
 impl Recipe {
     pub fn new(seed: u64) -> Recipe {
         let mut rng = Rng::new(seed);
-        let world = World::make(&mut rng);
+        let world = World::make_with_july(&mut rng);
         let maker = Maker { rng, world, polish: true };
         let waiting = VecDeque::new();
         Recipe {
@@ -91,6 +93,7 @@ impl Recipe {
             made: 0,
             aims: 0,
             ages: 0,
+            regimes: 0,
             patterns: 0,
             kinds: 0,
             mistakes: 0,
@@ -104,20 +107,21 @@ impl Recipe {
     pub fn next_case(&mut self) -> (Case, Intent) {
         self.made += 1;
         if self.made.is_multiple_of(BLOCK) {
-            self.maker.world = World::make(&mut self.maker.rng);
+            self.maker.world = World::make_with_july(&mut self.maker.rng);
         }
         if let Some(case) = self.waiting.pop_front() {
             return case;
         }
         match self.maker.rng.below(100) {
-            0..=49 => self.aimed(),
-            50..=52 => self.age(),
-            53..=61 => self.pattern(),
-            62..=67 => self.clean(),
-            68..=71 => self.underlying(),
-            72..=80 => self.polish(),
-            81..=84 => self.register(),
-            85..=90 => self.maker.mixture(),
+            0..=47 => self.aimed(),
+            48..=50 => self.age(),
+            51..=54 => self.regime(),
+            55..=62 => self.pattern(),
+            63..=68 => self.clean(),
+            69..=72 => self.underlying(),
+            73..=81 => self.polish(),
+            82..=85 => self.register(),
+            86..=90 => self.maker.mixture(),
             91..=94 => self.maker.nudges(),
             95..=96 => self.maker.wreck(),
             97..=98 => self.maker.refusals(),
@@ -175,6 +179,13 @@ impl Recipe {
         let (draft, codes) = self.maker.edge_of_age(self.ages);
         self.ages += 1;
         within_length(self.maker.case(&draft), Intent::Exactly(codes))
+    }
+
+    /// The next days round the change of what is asked of parties in turn.
+    fn regime(&mut self) -> (Case, Intent) {
+        let (draft, codes) = self.maker.regime_turn(self.regimes);
+        self.regimes += 1;
+        (self.maker.case(&draft), Intent::Exactly(codes))
     }
 
     /// The next pattern of a rule by classification in turn, met and missed by turns.
@@ -325,6 +336,22 @@ mod tests {
             seen.insert((case.day, traded, turn % 3));
         }
         assert_eq!(seen.len(), 31 * 5 * 3);
+    }
+
+    /// Trading days (four of them twice), submission days, places of an LEI and how many there are of it: in every way.
+    #[test]
+    fn the_change_of_regime_from_both_sides() {
+        const TURNS: usize = 11 * 7 * 9 * 5;
+        let mut recipe = Recipe::new(1);
+        let mut seen = std::collections::BTreeSet::new();
+        for turn in 0..TURNS {
+            let (case, intent) = recipe.regime();
+            let answered = case.judge();
+            assert!(intent.is_met_by(&answered), "{}", disagreement(turn, &case, &intent, &answered));
+            let traded = case.line.split(|byte| *byte == b'|').nth(27).unwrap()[..10].to_vec();
+            seen.insert((traded, case.day, turn % 9, turn % 5));
+        }
+        assert_eq!(seen.len(), TURNS / 11 * 7);
     }
 
     #[test]

@@ -18,7 +18,7 @@ mod verdict;
 
 pub use calendar::{Day, Moment, MICROS};
 pub use forms::{price, quantity, signed_amount, Decimal, Price, Quantity};
-pub use lists::{Lists, VenueKinds};
+pub use lists::{LeiTerms, Lists, VenueKinds};
 pub use register::{frame as register_frame, Pair, Register, Standing, Version};
 pub use summary::{note, Heading, Noted, Record, MOST_RECORDS, RECORD_BYTES};
 

@@ -15,9 +15,10 @@ _Static_assert(sizeof(struct boanhetri_verdict) == 32, "a verdict is two 16-bit 
 _Static_assert(sizeof(struct boanhetri_record) == 604, "a record is 20 bytes and 146 counters of 32 bits");
 _Static_assert(sizeof(struct boanhetri_noted) == 2, "what noting says is two bytes");
 
-/* Two LEIs with right check digits. */
+/* LEIs with right check digits; the last is in the list only where it is said. */
 #define ENTITY "00000000000000000098"
 #define OTHER "00000000000000000195"
+#define LATE "00000000000000000A68"
 
 /* The day of submission where nothing else is said, and the next. */
 #define TODAY 20250322
@@ -73,25 +74,27 @@ static void begin(struct bytes *b, const char *mark) {
     add_number(b, 0, 4);
 }
 
-static void days(struct bytes *list) {
-    add_number(list, 20180103, 4);
+static void days_from(struct bytes *list, uint32_t first) {
+    add_number(list, first, 4);
     add_number(list, 99991231, 4);
     list->at[5]++;
 }
 
-static void lei_row(struct bytes *list, const char *key) {
+static void days(struct bytes *list) { days_from(list, 20180103); }
+
+static void lei_row(struct bytes *list, const char *key, uint32_t registered) {
     add_text(list, key);
     add_number(list, 1, 1);
     add_number(list, 1, 1);
-    days(list);
+    days_from(list, registered);
 }
 
 static void lists(struct call *c) {
     for (size_t i = 0; i < LISTS; i++) {
         begin(&c->list[i], marks[i]);
     }
-    lei_row(&c->list[LEI], ENTITY);
-    lei_row(&c->list[LEI], OTHER);
+    lei_row(&c->list[LEI], ENTITY, 20180103);
+    lei_row(&c->list[LEI], OTHER, 20180103);
     add_text(&c->list[CTY], "DE");
     days(&c->list[CTY]);
     add_text(&c->list[CCY], "EUR\1");
@@ -568,6 +571,39 @@ static void polish_identifiers(void) {
     printf("%s\n", group);
 }
 
+/* A firm registered on 2018-07-05 that is all four parties and transmits for the buyer. */
+static struct call july_call(const char *traded, uint32_t day) {
+    struct call c = good_call();
+    const char *cells[66];
+    lei_row(&c.list[LEI], LATE, 20180705);
+    good_cells(cells, "R1");
+    cells[7] = cells[12] = cells[16] = cells[21] = "LEI:" LATE;
+    cells[26] = LATE;
+    cells[28] = traded;
+    cells[29] = "AOTC";
+    line_of(&c, cells);
+    c.day = day;
+    return c;
+}
+
+static void parties_by_the_trading_day(void) {
+    const char *group = "parties: registered on any day until 2 July 2018, by the trading day from 3 July on";
+    static const uint32_t submitted[] = {20180703, 20180706, 20230702};
+    static const struct finding others[1] = {{260, 32}};
+    static const struct finding all[5] = {{70, 7}, {120, 14}, {160, 19}, {210, 26}, {260, 32}};
+    for (size_t i = 0; i < sizeof submitted / sizeof submitted[0]; i++) {
+        struct call c = july_call("2018-07-02T23:59:59.999999Z", submitted[i]);
+        must_find(&c, others, 1, group);
+        c = july_call("2018-07-03T00:00:00Z", submitted[i]);
+        must_find(&c, all, 5, group);
+    }
+    struct call c = july_call("2018-07-05T00:00:00Z", 20180706);
+    struct bytes reg = c.reg;
+    expect_row(&reg, "R1");
+    must_accept(&c, &reg, group);
+    printf("%s\n", group);
+}
+
 static void line_is_short(void) {
     const char *group = "refusal 9: 4,097 bytes; 4,096 are read";
     static const struct finding first[1] = {{1001, 73}};
@@ -791,6 +827,7 @@ int main(void) {
     moment_is_real();
     buffer_has_room();
     polish_identifiers();
+    parties_by_the_trading_day();
     line_is_short();
     cells_are_65();
     refusals_have_an_order();

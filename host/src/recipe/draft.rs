@@ -52,6 +52,14 @@ impl Draft {
         self.malformed.contains(&cell)
     }
 
+    /// Makes someone with an LEI a party, without names and a date of birth.
+    pub fn set_party_lei(&mut self, (cell, names, birth_cell): PartyCells, lei: &[u8; 20]) {
+        for cell in [names[0], names[1], birth_cell] {
+            self.blank(cell);
+        }
+        self.set(cell, [b"LEI:", &lei[..]].concat());
+    }
+
     /// Is it a swap by its classification?
     pub fn is_swap(&self) -> bool {
         self.get(43).starts_with(b"S")
@@ -167,8 +175,10 @@ const NAMES: &[&str] =
     &["ANNA", "Jürgen", "Zoë", "O'NEILL", "Łukasz", "Αλέξης", "山田", "MUELLER", "de la Cruz", "Smith-Jones", "😀"];
 
 /// A party cell with the cells that go with it: first name, surname, date of birth.
-pub const PARTIES: [(usize, [usize; 2], usize); 4] =
-    [(7, [9, 10], 11), (12, [13, 14], 15), (16, [18, 19], 20), (21, [22, 23], 24)];
+type PartyCells = (usize, [usize; 2], usize);
+
+/// Buyer, seller and those who decide for them.
+pub const PARTIES: [PartyCells; 4] = [(7, [9, 10], 11), (12, [13, 14], 15), (16, [18, 19], 20), (21, [22, 23], 24)];
 
 /// Makes drafts within one world.
 pub struct Maker {
@@ -190,6 +200,11 @@ impl Maker {
 
     pub fn bad_lei(&mut self, day: Day, statuses: &[u8]) -> [u8; 20] {
         self.lei_where(|world, lei| !world.lei_good(lei, day, statuses))
+    }
+
+    /// An LEI that is good, or not, for a party in a trade of the day.
+    pub fn party_lei(&mut self, t: Day, good: bool) -> [u8; 20] {
+        self.lei_where(|world, lei| world.party_good(lei, t) == good)
     }
 
     pub fn country(&mut self, day: Day, good: bool) -> [u8; 2] {
@@ -300,7 +315,7 @@ impl Maker {
         };
         let kind = self.rng.of(kinds);
         let rest = match kind {
-            "LEI:" => self.good_lei(t, ANY_STATUS).to_vec(),
+            "LEI:" => self.party_lei(t, true).to_vec(),
             "MIC:" => self.venue(t, |venue| !venue.off && venue.wants_country()).expect("a venue").mic.to_vec(),
             "INTC" => Vec::new(),
             _ => self.set_person(draft, kind, names, birth_cell),
@@ -334,11 +349,7 @@ impl Maker {
         self.set_party(draft, 7);
         self.set_party(draft, 16);
         if draft.get(29) == b"DEAL" {
-            let (cell, names, birth) = PARTIES[self.rng.of(&[0, 2])];
-            for cell in [names[0], names[1], birth] {
-                draft.blank(cell);
-            }
-            draft.set(cell, [b"LEI:", &entity[..]].concat());
+            draft.set_party_lei(PARTIES[self.rng.of(&[0, 2])], entity);
         }
         for cell in [12, 21] {
             if self.rng.one_in(4) {

@@ -189,9 +189,8 @@ impl Maker {
                 let firm = code == 40;
                 let statuses = if firm { NOT_LAPSED } else { ANY_STATUS };
                 let entity = if hit { self.bad_lei(t, statuses) } else { self.good_lei(t, statuses) };
-                // As buyer or seller, too, a lapsed one is good enough.
-                let capacity =
-                    if self.world.lei_good(&entity, t, ANY_STATUS) { None } else { Some(self.rng.of(NO_DEAL)) };
+                // As buyer or seller, too, a lapsed one is good enough, and one that was registered late may be.
+                let capacity = if self.world.party_good(&entity, t) { None } else { Some(self.rng.of(NO_DEAL)) };
                 self.clean(Want { t: Some(t), firm: Some(firm), entity: Some(entity), capacity, ..Want::default() })
             }
             60 => {
@@ -225,7 +224,7 @@ impl Maker {
         draft.blank(birth_cell);
         match which {
             0 => {
-                let lei = if hit { self.bad_lei(t, ANY_STATUS) } else { self.good_lei(t, ANY_STATUS) };
+                let lei = self.party_lei(t, !hit);
                 draft.set(cell, [b"LEI:", &lei[..]].concat());
             }
             1 => {
@@ -767,7 +766,7 @@ impl Maker {
 }
 
 /// The code alone, or none.
-fn codes(code: u16, hit: bool) -> Vec<u16> {
+pub fn codes(code: u16, hit: bool) -> Vec<u16> {
     if hit {
         vec![code]
     } else {

@@ -7,6 +7,7 @@ use crate::reference::Day;
 
 use super::classes::any_class;
 use super::draft::{days_after, days_before};
+use super::regimes;
 use super::rng::{Rng, CAPITALS, CODE};
 
 pub const EARLY: u32 = 19000101;
@@ -14,6 +15,9 @@ pub const LATE: u32 = 99991231;
 
 /// The first trading day to be reported.
 pub const FIRST: u32 = 20180103;
+
+/// The first trading day on which a party has to be registered already.
+const FIRST_OF_REGISTERED: u32 = 20180703;
 
 /// Submission days at which 29 February matters or might seem to: in leap years, five years after them, in other
 /// years, and round 2100, which is no leap year. The five years before one have 1,825, 1,826 or 1,827 days.
@@ -32,18 +36,26 @@ pub const SPECIAL: [[u8; 3]; 12] =
 /// First and last day.
 type Span = (u32, u32);
 
+/// What a row says of its LEI: status, entity, registration, update, which may be any day where the entity is active.
+pub type LeiFacts = (u8, u8, u32, u32);
+
 pub struct LeiRow {
     key: [u8; 20],
     status: u8,
-    entity: u8,
-    registered: u32,
-    updated: u32,
+    pub entity: u8,
+    pub registered: u32,
+    pub updated: u32,
 }
 
 impl LeiRow {
     fn bytes(&self) -> Vec<u8> {
         let days = [self.registered.to_le_bytes(), self.updated.to_le_bytes()].concat();
         [&self.key[..], &[self.status, self.entity], &days].concat()
+    }
+
+    /// Are its status and its entity bytes that can match?
+    pub fn means_something(&self) -> bool {
+        ANY_STATUS.contains(&self.status) && [1, 2].contains(&self.entity)
     }
 }
 
@@ -114,6 +126,8 @@ pub struct World {
     wrong: Vec<[u8; 20]>,
     /// Every key worth using, with or without a row.
     pub leis: Vec<[u8; 20]>,
+    /// LEIs whose rows matter in the first days of July 2018; none of them is among the others.
+    pub july_leis: Vec<[u8; 20]>,
     pub countries: Vec<[u8; 2]>,
     pub currencies: Vec<[u8; 3]>,
     pub mics: Vec<[u8; 4]>,
@@ -192,16 +206,30 @@ impl World {
     pub fn make(rng: &mut Rng) -> World {
         let (s, t) = days(rng);
         let mut world = World::around(rng, s, t);
-        world.add_poland(rng);
+        world.complete(rng);
+        world
+    }
+
+    /// The same with LEIs for the first days of July 2018, whatever its own days are.
+    pub fn make_with_july(rng: &mut Rng) -> World {
+        let (s, t) = days(rng);
+        let mut world = World::around(rng, s, t);
+        world.add_july_leis(rng);
+        world.complete(rng);
+        world
+    }
+
+    /// Adds Poland and frames the lists.
+    fn complete(&mut self, rng: &mut Rng) {
+        self.add_poland(rng);
         let filled = rng.one_in(8);
-        world.lists = world.framed(rng, |rng, _, rows| {
+        self.lists = self.framed(rng, |rng, _, rows| {
             let width = rows[0].len();
             while filled && 9 + (rows.len() + 2) * width <= LONGEST_LIST {
                 // A key that no cell holds.
                 rows.push([&b"-"[..], &rng.bytes(width - 1)].concat());
             }
         });
-        world
     }
 
     /// A world of these days, its lists filled up to so many rows. What follows of `rng` does not depend on how many.
@@ -228,6 +256,7 @@ impl World {
             ins_rows: Vec::new(),
             wrong: Vec::new(),
             leis: Vec::new(),
+            july_leis: Vec::new(),
             countries: Vec::new(),
             currencies: Vec::new(),
             mics: Vec::new(),
@@ -259,20 +288,39 @@ impl World {
         rng.shuffle(&mut sets);
         for set in sets {
             let key = make_lei(rng);
-            self.add_lei(key, &set);
+            self.leis.push(key);
+            self.add_lei_rows(key, &set);
         }
-        // Good rows, wrong check digits.
         for _ in 0..2 {
-            let mut key = make_lei(rng);
-            let place = rng.between(18, 19);
-            key[place] = b'0' + (key[place] - b'0' + rng.between(1, 9) as u8) % 10;
-            self.wrong.push(key);
-            self.add_lei(key, &[(1, 1, EARLY, any)]);
+            let key = self.make_wrong_lei(rng, (1, 1, EARLY, any));
+            self.leis.push(key);
         }
     }
 
-    /// The rows of each LEI: status, entity, registration, update, which may be any day where the entity is active.
-    fn lei_sets(&self, rng: &mut Rng, any: u32) -> Vec<Vec<(u8, u8, u32, u32)>> {
+    fn add_july_leis(&mut self, rng: &mut Rng) {
+        for set in regimes::lei_sets(rng) {
+            let key = make_lei(rng);
+            self.july_leis.push(key);
+            self.add_lei_rows(key, &set);
+        }
+        for registered in [EARLY, 20180705] {
+            let key = self.make_wrong_lei(rng, (1, 1, registered, EARLY));
+            self.july_leis.push(key);
+        }
+    }
+
+    /// An LEI with a good row and wrong check digits.
+    fn make_wrong_lei(&mut self, rng: &mut Rng, row: LeiFacts) -> [u8; 20] {
+        let mut key = make_lei(rng);
+        let place = rng.between(18, 19);
+        key[place] = b'0' + (key[place] - b'0' + rng.between(1, 9) as u8) % 10;
+        self.wrong.push(key);
+        self.add_lei_rows(key, &[row]);
+        key
+    }
+
+    /// The rows of each LEI.
+    fn lei_sets(&self, rng: &mut Rng, any: u32) -> Vec<Vec<LeiFacts>> {
         let (s, t) = (self.s, self.t);
         vec![
             // Good on every day.
@@ -309,8 +357,7 @@ impl World {
         ]
     }
 
-    fn add_lei(&mut self, key: [u8; 20], rows: &[(u8, u8, u32, u32)]) {
-        self.leis.push(key);
+    fn add_lei_rows(&mut self, key: [u8; 20], rows: &[LeiFacts]) {
         for &(status, entity, registered, updated) in rows {
             self.lei_rows.push(LeiRow { key, status, entity, registered, updated });
         }
@@ -539,14 +586,30 @@ impl World {
     }
 
     pub fn lei_good(&self, lei: &[u8; 20], day: Day, statuses: &[u8]) -> bool {
-        let day = day.number();
+        self.lei_serves(lei, day, statuses, day.number())
+    }
+
+    /// Is it good for a buyer, a seller or one who decides for them? For trades before that first day they may have been
+    /// registered at any time, be it afterwards.
+    pub fn party_good(&self, lei: &[u8; 20], t: Day) -> bool {
+        let registered_by = if t.number() < FIRST_OF_REGISTERED { u32::MAX } else { t.number() };
+        self.lei_serves(lei, t, ANY_STATUS, registered_by)
+    }
+
+    fn lei_serves(&self, lei: &[u8; 20], day: Day, statuses: &[u8], registered_by: u32) -> bool {
         !self.wrong.contains(lei)
             && self.lei_rows.iter().any(|row| {
                 row.key == *lei
                     && statuses.contains(&row.status)
-                    && row.registered <= day
-                    && (row.entity == 1 || (row.entity == 2 && row.updated >= day))
+                    && row.registered <= registered_by
+                    && (row.entity == 1 || (row.entity == 2 && row.updated >= day.number()))
             })
+    }
+
+    /// The LEIs for July 2018 that have such a row.
+    pub fn july_leis_where(&self, condition: impl Fn(&LeiRow) -> bool) -> Vec<[u8; 20]> {
+        let rows = self.lei_rows.iter().filter(|row| self.july_leis.contains(&row.key) && condition(row));
+        rows.map(|row| row.key).collect()
     }
 
     pub fn country_good(&self, country: &[u8; 2], day: Day) -> bool {

@@ -56,6 +56,29 @@ struct LeiRow {
     updated: u32,
 }
 
+/// What is asked of a row for an LEI, beside being active or updated no earlier than the day.
+#[derive(Clone, Copy, Debug, PartialEq, Eq)]
+pub enum LeiTerms {
+    /// Registered by the day, and not lapsed.
+    NotLapsed,
+    /// Registered by the day.
+    Registered,
+    /// Registered on any day, a later one too.
+    AnyRegistration,
+}
+
+impl LeiRow {
+    fn meets(&self, terms: LeiTerms, day: u32) -> bool {
+        let registered = self.registered <= day;
+        let as_asked = match terms {
+            LeiTerms::NotLapsed => registered && !self.lapsed,
+            LeiTerms::Registered => registered,
+            LeiTerms::AnyRegistration => true,
+        };
+        as_asked && (self.active || self.updated >= day)
+    }
+}
+
 #[derive(Clone, Copy, Debug)]
 struct CurrencyRow {
     pre_euro: bool,
@@ -144,15 +167,9 @@ impl Lists {
         })
     }
 
-    /// Does some row show this LEI as registered by the day, and as active or as updated no earlier than the
-    /// day? A lapsed registration counts only where that is allowed.
-    pub fn lei_known(&self, lei: &Lei, day: Day, lapsed_allowed: bool) -> bool {
-        let day = day.number();
-        self.leis.get(lei).is_some_and(|rows| {
-            rows.iter().any(|row| {
-                (lapsed_allowed || !row.lapsed) && row.registered <= day && (row.active || row.updated >= day)
-            })
-        })
+    /// Does some row show this LEI as active, or as updated no earlier than the day, and meet the terms?
+    pub fn lei_known(&self, lei: &Lei, day: Day, terms: LeiTerms) -> bool {
+        self.leis.get(lei).is_some_and(|rows| rows.iter().any(|row| row.meets(terms, day.number())))
     }
 
     /// Is this a country on the day?

@@ -7,7 +7,7 @@
 use super::calendar::{Day, Moment};
 use super::cfi::{self, Cfi};
 use super::forms::{isin_check, lei_check, Party, Price, Quantity};
-use super::lists::{Lists, VenueKinds};
+use super::lists::{LeiTerms, Lists, VenueKinds};
 use super::register::Standing;
 use super::report::{Cancellation, Form, Report};
 use super::verdict::Verdict;
@@ -19,6 +19,9 @@ const SPECIAL_CURRENCIES: [&[u8; 3]; 12] =
 
 /// The first trading day to be reported.
 const FIRST_DAY: u32 = 20180103;
+
+/// The last trading day for which a party's LEI may have been registered on any day.
+const LAST_OF_ANY_REGISTRATION: u32 = 20180702;
 
 /// The codes of the rules on one party.
 struct PartyCodes {
@@ -44,8 +47,17 @@ fn off_venue(mic: &Mic) -> bool {
     mic == b"XXXX" || mic == b"XOFF"
 }
 
-fn lei_good(lists: &Lists, lei: &Lei, day: Day, lapsed_allowed: bool) -> bool {
-    lei_check(lei) && lists.lei_known(lei, day, lapsed_allowed)
+fn lei_good(lists: &Lists, lei: &Lei, day: Day, terms: LeiTerms) -> bool {
+    lei_check(lei) && lists.lei_known(lei, day, terms)
+}
+
+/// What is asked of an LEI in 7, 12, 16 and 21: there are two sets of conditions, and the trading day alone chooses.
+fn party_terms(t: Day) -> LeiTerms {
+    if t.number() <= LAST_OF_ANY_REGISTRATION {
+        LeiTerms::AnyRegistration
+    } else {
+        LeiTerms::Registered
+    }
 }
 
 /// The rules for CXL: 024, 025 and 060.
@@ -58,7 +70,7 @@ pub fn judge_cancellation(
 ) {
     verdict.rule(24, || Ok(standing? == Standing::Absent));
     verdict.rule(25, || Ok(standing? == Standing::Cancelled));
-    verdict.rule(60, || Ok(!lei_good(lists, report.submitter?, moment.day, true)));
+    verdict.rule(60, || Ok(!lei_good(lists, report.submitter?, moment.day, LeiTerms::Registered)));
 }
 
 /// The rules for NEW: all but 024 and 025.
@@ -95,12 +107,12 @@ fn five_years_before(s: Day) -> u32 {
 /// LEIs that stand alone in a cell: 4, 6, 26, 27.
 fn judge_entities(report: &Report, lists: &Lists, moment: Moment, verdict: &mut Verdict) {
     let t = trading_day(report);
-    verdict.rule(40, || Ok(report.investment_firm? && !lei_good(lists, report.entity?, t?, false)));
-    verdict.rule(41, || Ok(!report.investment_firm? && !lei_good(lists, report.entity?, t?, true)));
-    verdict.rule(60, || Ok(!lei_good(lists, report.submitter?, moment.day, true)));
+    verdict.rule(40, || Ok(report.investment_firm? && !lei_good(lists, report.entity?, t?, LeiTerms::NotLapsed)));
+    verdict.rule(41, || Ok(!report.investment_firm? && !lei_good(lists, report.entity?, t?, LeiTerms::Registered)));
+    verdict.rule(60, || Ok(!lei_good(lists, report.submitter?, moment.day, LeiTerms::Registered)));
     for (code, transmitter) in [(260, report.buyer_transmitter), (270, report.seller_transmitter)] {
         verdict.rule(code, || match (transmitter?, t?) {
-            (Some(lei), t) => Ok(!lei_good(lists, lei, t, true)),
+            (Some(lei), t) => Ok(!lei_good(lists, lei, t, LeiTerms::Registered)),
             (None, _) => Ok(false),
         });
     }
@@ -117,7 +129,9 @@ fn judge_parties(report: &Report, lists: &Lists, verdict: &mut Verdict) {
         (report.seller_decider, SELLER_DECIDER),
     ] {
         match cells.party {
-            Ok(Some(Party::Lei(lei))) => verdict.rule(codes.lei, || Ok(!lei_good(lists, lei, t?, true))),
+            Ok(Some(Party::Lei(lei))) => {
+                verdict.rule(codes.lei, || t.map(|t| !lei_good(lists, lei, t, party_terms(t))));
+            }
             Ok(Some(Party::Mic(mic))) => {
                 if let Some(code) = codes.mic {
                     verdict.rule(code, || {

@@ -524,6 +524,136 @@ fn leis_good_and_not() {
     assert_eq!(sample.codes(), []);
 }
 
+/// The one LEI of the tests on parties' conditions; E is good on every day that they have.
+const G: &str = "00000000000000000A68";
+
+/// Where G stands, with the code that is given where it is not good: a party, alone, or as the executing entity.
+const PARTY_PLACES: [(usize, u16); 4] = [(7, 70), (12, 120), (16, 160), (21, 210)];
+const OTHER_PLACES: [(usize, u16); 4] = [(26, 260), (27, 270), (4, 40), (4, 41)];
+
+/// G's row: status, entity, registration, update.
+#[derive(Clone, Copy)]
+struct GRow(u8, u8, u32, u32);
+
+/// Is this code, of those on LEIs, the only one where G stands in its cell? Otherwise there is none.
+fn g_is_bad(row_of_g: GRow, (cell, code): (usize, u16), traded: u32, submitted: u32) -> bool {
+    let GRow(status, entity, registered, updated) = row_of_g;
+    let mut sample = clean();
+    sample.lei = list("LEI", &[row(E, &[1, 1], 20000101, 0), row(G, &[status, entity], registered, updated)]);
+    sample.day = submitted;
+    let value = if PARTY_PLACES.contains(&(cell, code)) { format!("LEI:{G}") } else { G.to_string() };
+    sample.set(28, &format!("{}-{:02}-{:02}T09:00:00Z", traded / 10_000, traded / 100 % 100, traded % 100));
+    sample.set(cell, &value).set(5, if code == 41 { "FALSE" } else { "TRUE" });
+    let mut codes = sample.codes();
+    // On some of the days the trade is too early, or to come.
+    codes.retain(|code| ![280, 281].contains(code));
+    assert!(codes.is_empty() || codes == [code], "{code} {traded} {submitted}: {codes:?}");
+    !codes.is_empty()
+}
+
+/// The days round the change of conditions, with the day before each and the day after.
+const ROUND_THE_CHANGE: [[u32; 3]; 4] = [
+    [20180630, 20180701, 20180702],
+    [20180701, 20180702, 20180703],
+    [20180702, 20180703, 20180704],
+    [20180703, 20180704, 20180705],
+];
+
+/// Submission days on both sides of the change, and years later; some before the trade.
+const SUBMISSIONS: [u32; 8] = [20180630, 20180701, 20180702, 20180703, 20180704, 20190702, 20230701, 20250322];
+
+#[test]
+fn until_2_july_2018_parties_may_be_registered_later() {
+    for [before, t, after] in ROUND_THE_CHANGE {
+        for s in SUBMISSIONS {
+            for registered in [20000101, before, t, after, 20180731, 20190101, 99991231] {
+                let active = GRow(1, 1, registered, 0);
+                for place in PARTY_PLACES {
+                    let bad = t >= 20180703 && registered > t;
+                    assert_eq!(g_is_bad(active, place, t, s), bad, "{place:?} {t} {s} {registered}");
+                }
+                for place in OTHER_PLACES {
+                    assert_eq!(g_is_bad(active, place, t, s), registered > t, "{place:?} {t} {s} {registered}");
+                }
+            }
+        }
+    }
+    // The first trading day of all, and the same day of other years.
+    let later = |t, registered| PARTY_PLACES.map(|place| g_is_bad(GRow(1, 1, registered, 0), place, t, 20190703));
+    assert_eq!(later(20180103, 20180104), [false; 4]);
+    assert_eq!(later(20171231, 20180104), [false; 4]);
+    assert_eq!(later(20180630, 99991231), [false; 4]);
+    assert_eq!(later(20190702, 20190703), [true; 4]);
+    assert_eq!(later(20181231, 20190101), [true; 4]);
+}
+
+#[test]
+fn the_submitting_entity_is_registered_by_its_day() {
+    for [before, s, after] in ROUND_THE_CHANGE {
+        for t in [20180630, 20180701, 20180702, 20180703] {
+            for registered in [before, s, after] {
+                assert_eq!(g_is_bad(GRow(1, 1, registered, 0), (6, 60), t, s), registered > s, "{t} {s}");
+            }
+        }
+    }
+}
+
+#[test]
+fn what_else_is_asked_of_parties_on_either_side() {
+    for [before, t, _] in ROUND_THE_CHANGE {
+        for s in SUBMISSIONS {
+            let bad = |row| PARTY_PLACES.map(|place| g_is_bad(row, place, t, s));
+            for registered in [20000101, 20180705] {
+                let late = t >= 20180703 && registered > t;
+                for status in 0..=6 {
+                    let meaningless = !(1..=4).contains(&status);
+                    assert_eq!(bad(GRow(status, 1, registered, 0)), [late || meaningless; 4], "{t} {s} {status}");
+                }
+                for entity in [0, 3, 255] {
+                    assert_eq!(bad(GRow(1, entity, registered, 99991231)), [true; 4], "{t} {s} {entity}");
+                }
+                assert_eq!(bad(GRow(1, 2, registered, before)), [true; 4], "{t} {s}");
+                assert_eq!(bad(GRow(2, 2, registered, t)), [late; 4], "{t} {s}");
+                assert_eq!(bad(GRow(3, 2, registered, 99991231)), [late; 4], "{t} {s}");
+            }
+        }
+    }
+}
+
+#[test]
+fn check_digits_and_single_rows_count_on_either_side() {
+    let wrong = "00000000000000000097";
+    for traded in ["2018-07-02T23:59:59.999999Z", "2018-07-03T00:00:00Z"] {
+        let mut sample = clean();
+        sample.day = 20180705;
+        sample.set(28, traded);
+        let parties = |sample: &Sample, lei: &str| {
+            let lei = format!("LEI:{lei}");
+            sample.with(&PARTY_PLACES.map(|(cell, _)| (cell, &lei[..]))).codes()
+        };
+        sample.lei = list("LEI", &[row(E, &[1, 1], 20000101, 0), row(wrong, &[1, 1], 20000101, 0)]);
+        assert_eq!(parties(&sample, wrong), [70, 120, 160, 210]);
+        // Without a row, and with two rows that are good only together.
+        assert_eq!(parties(&sample, G), [70, 120, 160, 210]);
+        let rows = [row(E, &[1, 1], 20000101, 0), row(G, &[1, 2], 20000101, 20180701), row(G, &[5, 1], 20190101, 0)];
+        sample.lei = list("LEI", &rows);
+        assert_eq!(parties(&sample, G), [70, 120, 160, 210]);
+    }
+    // The day changes at midnight: an entity that is registered on 4 July.
+    let at = |traded| {
+        let mut sample = clean();
+        sample.lei = list("LEI", &[row(E, &[1, 1], 20000101, 0), row(G, &[1, 1], 20180704, 0)]);
+        sample.day = 20180705;
+        let lei = format!("LEI:{G}");
+        sample.with(&[(28, traded), (7, &lei), (16, &lei), (26, G)]).codes()
+    };
+    assert_eq!(at("2018-07-02T23:59:59.999999Z"), [260]);
+    assert_eq!(at("2018-07-03T00:00:00Z"), [70, 160, 260]);
+    assert_eq!(at("2018-07-04T00:00:00Z"), []);
+    // Without a trading day neither set is asked.
+    assert_eq!(at("2018-07-03"), [1028]);
+}
+
 #[test]
 fn currencies() {
     assert_eq!(clean().with(&[(31, "DEM")]).codes(), []);
