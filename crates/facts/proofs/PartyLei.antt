@@ -24,12 +24,12 @@ module _ (lei s : List ℕ) (t : ℕ) where
   unfolding partyLeiGood leiGood
   from-3-july h = rw (lt-leb t 20180702 (omega (arith, h)))
 
-  -- registered by the day, where that is asked for
+  -- what the two sets share, and registered by T unless T is free of that
   abbrev stands : Bool → List ℕ → Bool
   stands free row = leiStands anyStatus t row && (free || leb (dayAt 22 row) t)
 
-  -- remainder 1 by 97, and some row has it with status 1 to 4, is active or inactive with update on or after T, and is registered by T
-  -- where T is not until 2018-07-02
+  -- remainder 1 by 97, and some row has it with status 1 to 4, active or inactive with update on or after T, and, from 2018-07-03 on,
+  -- registered by T
   pub row-by-row : partyLeiGood lei s t ≡ (leiRight s && someIn Lei lei s (stands (leb t 20180702)))
   unfolding partyLeiGood
   row-by-row = λ i. leiRight s && chosen (leb t 20180702) i

@@ -4,9 +4,9 @@ use mathlib.Core.Bool.{Bool, true, false, true≢false, or-true}
 use mathlib.Core.Logic.{⊎-elim}
 use mathlib.Core.List.{List, [], _∷_, List·Memᴰ, List·Memᴰ·head, List·Memᴰ·tail, List·Memᴰ·not-nil, List·Memᴰ·cases-cons}
 use Prim.Native.Nat.{ℕ}
-use Rattle.text.proofs.Bools.{and-left, and-right, or-cases}
 use lib.ListN.{take}
 use Rattle.text.specs.Word.{same}
+use Rattle.text.proofs.Bools.{and-left, and-right, or-cases}
 use Rattle.lists.specs.Rows.{rowsOf, some, keyed, someRow}
 
 abbrev pub Row : Type 0
