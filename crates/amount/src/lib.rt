@@ -1,6 +1,8 @@
 // Amounts: the decimal form D(n, f, m) of the paper, and the prices and quantities that are written with it.
 //
 // A decimal is read to a whole number and the fewest decimal places that lose nothing, so equal amounts have one form.
+#![tactic(auto)]
+
 ghost use Rattle.std.specs.Prelude.{◌≡◌, ◌≤◌, length};
 ghost use Rattle.amount.specs.Decimal.{point_at, digits_of, is_decimal, without_last_zeros, value_of, tagged};
 ghost use Rattle.amount.specs.Signed.{behind_sign, signed_value_of, signed_of, signed_kind};

@@ -1,4 +1,6 @@
 // The step between reading and judging: every look-up that the rules need of a line is made here, once, and nowhere else.
+#![tactic(auto)]
+
 ghost use Rattle.std.specs.Prelude.{◌≡◌, ◌&&◌, ◌||◌};
 ghost use Rattle.cells.specs.Split.{Tabled};
 ghost use Rattle.lists.specs.Lookups.{country_known};

@@ -1,4 +1,6 @@
 // A buffer that is filled from its start: what has no room is dropped.
+#![tactic(auto)]
+
 ghost use Rattle.std.specs.Prelude.{[], ◌∷◌};
 ghost use Rattle.buffer.specs.Kept.{Kept};
 

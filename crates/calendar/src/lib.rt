@@ -1,6 +1,8 @@
 // Real days of the years 1900 to 9999, the day five years before one, the dates and moments of cells.
 //
 // Every function answers for every input. What each answers is a definition of specs/, which the crates above cite.
+#![tactic(auto)]
+
 mod dates;
 mod days;
 mod moments;

@@ -1,5 +1,7 @@
 // What include/boanhetri.h declares, for a host that links C: one line judged, a register converted, and a judged line noted in the
 // day's summary.
+#![tactic(auto)]
+
 ghost use Rattle.std.specs.Prelude.{not, eqb, length};
 ghost use Rattle.register.specs.Conversion.{Converted};
 ghost use Rattle.facts.specs.Call.{call};

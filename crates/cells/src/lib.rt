@@ -1,6 +1,8 @@
 // The cells of a line: what its bars part.
 //
 // A line is split once, in one pass, into the places where its 65 cells start and end; a cell is then a part of the line.
+#![tactic(auto)]
+
 ghost use Rattle.std.specs.Prelude.{◌≡◌, length};
 ghost use Rattle.cells.specs.Cells.{cell};
 ghost use Rattle.cells.specs.Split.{split_of, not_split, Tabled};

@@ -4,6 +4,8 @@
 // What the cells hold comes in as `kinds`, one number for each cell (its index is the cell's number): 1 where it is blank, from
 // 2 on where it is present, its values counted as the paper lists them, so that what is wrong with a cell is a comparison. The
 // number of a cell with a form finding does not matter, since no rule that reads it is given; 0 stands for no value.
+#![tactic(auto)]
+
 ghost use Rattle.std.specs.Prelude.{◌≡◌, [], ◌∷◌, length, get_or, ◌≤◌, ◌<◌};
 ghost use Rattle.cfi.specs.Rules.{matches_code, cfi_findings};
 ghost use Rattle.cfi.specs.Table.{Spelled, matches_in, wrong_by, row_broken, marked};

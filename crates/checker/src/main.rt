@@ -5,6 +5,8 @@
 // `advance` takes a chunk up to the end of a line, `finish` the line that has begun where the input ends, and
 // proofs/Program.antt has the theorem over both, with the summary's rows. The functions below them call read and write, and carry on
 // what these leave.
+#![tactic(auto)]
+
 ghost use Rattle.std.specs.Prelude.{◌≡◌, true, false, ◌+◌, length, take};
 ghost use Rattle.checker.specs.Setting.{empty_register};
 ghost use Rattle.checker.specs.Program.{judged};

@@ -1,1 +1,2 @@
 // There is no code.
+#![tactic(auto)]

@@ -2,6 +2,8 @@
 //
 // A rule is then a formula over these facts, and a fact one over what was read of the line and what was asked of the lists. Facts of a malformed
 // cell say something, and no rule listens: a rule that reads the cell is not judged.
+#![tactic(auto)]
+
 mod answers;
 mod entities;
 mod lines;

@@ -1,4 +1,6 @@
 // Which form each of the 65 cells has, what they say, and the findings 1001 to 1065 of a line.
+#![tactic(auto)]
+
 mod findings;
 mod meanings;
 mod new_cells;

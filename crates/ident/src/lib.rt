@@ -1,6 +1,8 @@
 // Identifiers: LEI, ISIN, MIC, what identifies a person, and the party that a cell names.
 //
 // Every function answers for every input. What each answers is a definition of specs/, which the crates above cite.
+#![tactic(auto)]
+
 mod characters;
 mod codes;
 mod isins;

@@ -1,4 +1,6 @@
 // One line judged: refused by number, or answered with its findings, and the register written where there are none.
+#![tactic(auto)]
+
 ghost use Rattle.std.specs.Prelude.{◌≡◌, cond, List, ℕ, length};
 ghost use Rattle.text.specs.FirstFrom.{first_from};
 ghost use Rattle.cells.specs.Split.{Tabled};

@@ -2,6 +2,8 @@
 //
 // A look-up reads the whole rows that fit behind the head, so it answers for any bytes. For a framed list these are the rows that its
 // head counts.
+#![tactic(auto)]
+
 mod frame;
 mod lookups;
 mod rows;

@@ -1,5 +1,7 @@
 // What the program prints: for a line its number, the answer, n and the codes; for the day's summary a line for each record. Numbers are in
 // decimal, parted by single spaces, and LF ends a line.
+#![tactic(auto)]
+
 ghost use Rattle.std.specs.Prelude.{◌≡◌, [], ◌∷◌, take};
 ghost use Rattle.buffer.specs.Kept.{Kept};
 ghost use Rattle.printing.specs.Printed.{decimal, spaced, printed};

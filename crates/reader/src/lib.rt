@@ -2,6 +2,8 @@
 //
 // A line without bytes is one blank cell. Judging reads cells by the table of their places instead (crate cells); the reader is
 // for a host that wants them one after another, of any number.
+#![tactic(auto)]
+
 ghost use Rattle.std.specs.Prelude.{◌≡◌, ◌-◌, take, drop};
 ghost use Rattle.reader.specs.Reading.{begun, cell_from, place_after, is_over, Stepped, step_from};
 

@@ -3,6 +3,8 @@
 // docs/CASES.md has the form of both. What is read and written no contract can say; what is written for a case is
 // proved of `result`. No program can give an exit status: where the file is not of that form there is a message, and
 // results are missing.
+#![tactic(auto)]
+
 ghost use Rattle.std.specs.Prelude.{◌≤◌, ◌<◌, length};
 ghost use Rattle.facts.specs.Call.{call};
 ghost use Rattle.judge.specs.Outcome.{outcome};

@@ -2,6 +2,8 @@
 //
 // The host lends a table of records, one for each executing entity, and a common record beside it. All that counts, compares or
 // chooses stands here, on plain data; the exported function, which finds the record and puts it back, is in capi.
+#![tactic(auto)]
+
 ghost use Rattle.std.specs.Prelude.{◌≡◌, false, ◌++◌, ◌≤◌, ◌<◌, length, get_or, replicate};
 ghost use Rattle.cells.specs.Cells.{cell};
 ghost use Rattle.verdict.specs.Codes.{codes, code_count};

@@ -2,6 +2,8 @@
 // then one for each code. The last row is the common record's.
 //
 // All that counts, compares or chooses is in summary; here a record is found, taken out of its row and put back.
+#![tactic(auto)]
+
 ghost use Rattle.std.specs.Prelude.{◌≡◌, [], ◌≤◌, ◌<◌, length, drop, get_or};
 ghost use Rattle.table.specs.Rows.{record_count, record_in, row_of, Rows, row_for};
 ghost use Rattle.table.specs.Noted.{tallied_of, NotedIn};

@@ -5,7 +5,7 @@ ghost use Rattle.text.specs.Class.{in_class, all_of, run_of};
 use crate::parts::part;
 
 // The classes that the paper names for the bytes of a cell.
-#[derive(Drop)]
+#[derive(Clone, Copy)]
 pub enum Class {
     // 0-9
     Digit,

@@ -1,6 +1,8 @@
 // The bytes of a cell: which class each is of, whole words and fixed shapes, numbers, and parts of a slice.
 //
 // Every function answers for every input. What each answers is a definition of specs/, which the crates above cite.
+#![tactic(auto)]
+
 mod classes;
 mod loads;
 mod numbers;

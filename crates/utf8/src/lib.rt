@@ -2,6 +2,8 @@
 //
 // The bytes are read once from left to right, by the syntax of RFC 3629 section 4. That this counts the code points
 // which section 3 encodes is a theorem beside the contracts.
+#![tactic(auto)]
+
 ghost use Rattle.std.specs.Prelude.{◌≡◌};
 ghost use Rattle.utf8.specs.Abnf.{first, awaited, after, starts, ended, points, count_within, points_within};
 

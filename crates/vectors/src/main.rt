@@ -1,5 +1,7 @@
 // Tries cases from outside on the crates below: a line of the input is what is expected, what is called and what it is
 // called on. A line that opens with # begins a group, whose count is printed behind its name.
+#![tactic(auto)]
+
 mod answers;
 mod judging;
 mod leaves;

@@ -1,6 +1,8 @@
 // From the flags of the codes to a verdict: three words with one bit a code, the count, the codes listed.
 //
 // Every public function answers for every input. Flags stand in the order of the codes, which rises.
+#![tactic(auto)]
+
 ghost use Rattle.std.specs.Prelude.{◌≡◌, ◌+◌, ◌≤◌, length};
 ghost use Rattle.std.specs.Int.Count.{ones};
 ghost use Rattle.verdict.specs.Codes.{entries_needed};
