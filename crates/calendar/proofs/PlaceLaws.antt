@@ -37,7 +37,7 @@ pair_of_lem at more s h e =
     rw (one_of more s at e (and_left (has at more) (has (at + 1) more) h), one_of more s (at + 1) e (and_right (has at more) (has (at + 1) more) h))
 
 -- the pattern has a digit at each of the places
-abbrev marked : List ℕ → List ℕ → Bool
+abbrev pub marked : List ℕ → List ℕ → Bool
 marked pattern [] = true
 marked pattern (i ∷ places) = eqb (get_or pattern i 0) 100 && marked pattern places
 
@@ -55,7 +55,7 @@ by_pattern pattern t (i ∷ places) h e =
     (by_pattern pattern t places (and_right (eqb (get_or pattern i 0) 100) (marked pattern places) h) e)
 
 -- what stands at places before n stands there in all of the cell
-abbrev below : ℕ → List ℕ → Bool
+abbrev pub below : ℕ → List ℕ → Bool
 below n [] = true
 below n (i ∷ places) = ltb i n && below n places
 

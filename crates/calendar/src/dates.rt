@@ -10,7 +10,7 @@ use crate::days::is_day;
 use text::Class;
 
 // A date cell: the day that it writes, or none.
-#[derive(Drop)]
+#[derive(Clone, Copy)]
 pub enum Date {
     // yyyymmdd
     On(u32),

@@ -9,7 +9,7 @@ use crate::dates::{day_written, two_at};
 use crate::days::is_day;
 use text::Class;
 
-#[derive(Drop)]
+#[derive(Clone, Copy)]
 pub struct Moment {
     // yyyymmdd
     pub day: u32,
@@ -18,7 +18,7 @@ pub struct Moment {
 }
 
 // A moment cell: the moment that it writes, or none.
-#[derive(Drop)]
+#[derive(Clone, Copy)]
 pub enum When {
     At(Moment),
     Malformed,
