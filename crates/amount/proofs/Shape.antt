@@ -14,7 +14,7 @@ use lib.ListN.{length, get_or, drop_of_length-le}
 use lib.Seq.{take_all, take-length, take-append_seam, drop-append-add, split_at}
 use Rattle.text.specs.Ascii.{ascii}
 use Rattle.text.specs.declared.classes.Class.TheVariants.{Digit}
-use Rattle.text.specs.Class.{in_class, all_of, run_of, is}
+use Rattle.text.specs.Class.{in_class, all_of, run_of}
 use Rattle.text.specs.Number.{number_of}
 use Rattle.text.proofs.Bools.{and_left, and_right, by_test}
 use Rattle.text.proofs.NumberLaws.{digit_yes}

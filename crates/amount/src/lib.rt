@@ -12,20 +12,20 @@ ghost use Rattle.amount.specs.Quantity.{units_of, quantity_of, quantity_kind};
 use text::Class;
 
 // The mantissa with its point moved left by the places: 1.50 is 15 with 1 place, and every zero 0 with none.
-#[derive(Drop)]
+#[derive(Clone, Copy)]
 pub struct Decimal {
     pub mantissa: i64,
     pub places: u8,
 }
 
 // What cell 38 holds, and what stands behind MV:.
-#[derive(Drop)]
+#[derive(Clone, Copy)]
 pub enum Signed {
     Amount(Decimal),
     Malformed,
 }
 
-#[derive(Drop)]
+#[derive(Clone, Copy)]
 pub enum Price {
     // PNDG
     Pending,
@@ -42,7 +42,7 @@ pub enum Price {
     Malformed,
 }
 
-#[derive(Drop)]
+#[derive(Clone, Copy)]
 pub enum Quantity {
     // UNT:
     Units(Decimal),

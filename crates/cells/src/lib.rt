@@ -9,7 +9,7 @@ ghost use Rattle.cells.specs.Split.{split_of, not_split, Tabled};
 ghost use Rattle.cells.specs.Pass.{Met, Ahead, Walked, Over};
 
 // Where the 65 cells of a line start and end. `whole` says that the line has exactly 65; where it has not, both tables are zero.
-#[derive(Drop)]
+#[derive(Clone, Copy)]
 pub struct SplitLine {
     pub whole: bool,
     pub starts: [usize; 65],
