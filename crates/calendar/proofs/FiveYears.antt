@@ -53,6 +53,13 @@ module _ (s : ℕ) where
       (λ p. absurd (h (omega (arith, in_february p, on_29 p))))
       (λ p. omega (arith, to_same p))
 
+  -- the same of a year that a test has set five back
+  pub back_29 : (earlier : ℕ) → earlier ≡ year_of s - 5 → s % 10000 ≡ 229 → earlier * 10000 + 228 ≡ five_years_before s
+  back_29 earlier e h = rw e (from_29 h)
+
+  pub back_other : (earlier : ℕ) → earlier ≡ year_of s - 5 → (s % 10000 ≡ 229 → ⊥) → earlier * 10000 + s % 10000 ≡ five_years_before s
+  back_other earlier e h = rw e (from_other h)
+
   -- five years are 50,000 in yyyymmdd, and a day more from 29 February
   years_and_day : 1900 ≤ year_of s → leap_day s ≡ true → five_years_before s + 50001 ≡ s
   years_and_day h e = omega (arith, to_28 e, on_29 e)

@@ -46,6 +46,7 @@ pub fn is_day(ymd: u32) -> bool
 }
 
 // The same month and day five years before, and 28 February for 29 February. Years are counted down to 0, so that every number has an answer.
+#[tactic(auto, using(crate::proofs::FiveYears::back_29, crate::proofs::FiveYears::back_other))]
 pub fn five_years_before(ymd: u32) -> u32
     ensures { result ≡ five_years_before ymd }
 {

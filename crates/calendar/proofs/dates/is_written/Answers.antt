@@ -2,7 +2,6 @@ use mathlib.Core.Path.{◌∙◌, sym}
 use mathlib.Core.Bool.{true, ◌&&◌}
 use lib.Dec.{eqb}
 use lib.ListN.{get_or}
-use borrow.Author.Rules.{rules}
 use Rattle.text.specs.Ascii.{ascii}
 use Rattle.text.proofs.WordLaws.{other_length}
 use Rattle.text.proofs.RunLaws.{in_runs}

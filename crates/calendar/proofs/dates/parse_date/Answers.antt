@@ -1,12 +1,10 @@
 use mathlib.Core.Path.{◌∙◌, refl, sym, ap}
-use borrow.Author.Tests.{not-true, not-false}
 use Rattle.text.specs.Ascii.{ascii}
 use Rattle.calendar.specs.Day.{is_day}
 use Rattle.calendar.specs.Dates.{date_of}
 use Rattle.calendar.specs.Places.{date_places}
 use Rattle.calendar.specs.declared.dates.Date.TheVariants.{On}
 use Rattle.calendar.proofs.PlaceLaws.{by_pattern}
-use borrow.Author.Rules.{rules}
 use Rattle.calendar.proofs.dates.parse_date.Goals as goal
 
 pub returns-then-not-is_written : goal.returns-then-not-is_written

@@ -1,4 +1,3 @@
-use borrow.Author.Rules.{rules}
 use Rattle.calendar.specs.Day.{is_day}
 use Rattle.calendar.proofs.days.is_day.Goals as goal
 

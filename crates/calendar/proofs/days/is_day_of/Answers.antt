@@ -1,4 +1,3 @@
-use borrow.Author.Rules.{rules}
 use Rattle.calendar.proofs.days.is_day_of.Goals as goal
 
 pub returns : goal.returns

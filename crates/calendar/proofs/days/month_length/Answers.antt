@@ -1,5 +1,4 @@
 use mathlib.Core.Path.{◌∙◌, refl, sym}
-use borrow.Author.Rules.{rules}
 use borrow.Author.Tests.{eq-eqb, ne_eqb}
 use Rattle.text.proofs.Bools.{cond_yes, cond_no}
 use Rattle.calendar.specs.Day.{month_length}

@@ -1,5 +1,4 @@
 use native.Mathlib.Omega.{arith}
-use borrow.Author.Rules.{rules}
 use Rattle.calendar.proofs.MomentLaws.{ending_z, ending_short, ending_long, ending_digits}
 use Rattle.calendar.proofs.moments.is_ending.Goals as goal
 

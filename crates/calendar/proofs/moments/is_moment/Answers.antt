@@ -1,6 +1,5 @@
 use mathlib.Core.Bool.{◌&&◌}
 use lib.Dec.{leb}
-use borrow.Author.Rules.{rules}
 use Rattle.calendar.specs.Moments.{is_moment}
 use Rattle.calendar.proofs.moments.is_moment.Goals as goal
 

@@ -1,7 +1,6 @@
 use Prim.Native.Nat.{◌+◌, ◌*◌}
 use mathlib.Core.Path.{◌∙◌, refl, ap}
 use native.Mathlib.Omega.{arith}
-use borrow.Author.Rules.{rules}
 use Rattle.text.specs.Number.{two_digits, four_digits}
 use Rattle.calendar.specs.Moments.{micro_written}
 use Rattle.calendar.specs.Places.{time_places}
