@@ -8,7 +8,7 @@ ghost use Rattle.std.specs.Prelude.{◌≡◌, ◌-◌, take, drop};
 ghost use Rattle.reader.specs.Reading.{begun, cell_from, place_after, is_over, Stepped, step_from};
 
 // A line, and the place in it where the next cell starts.
-#[derive(Drop)]
+#[derive(Clone, Copy)]
 pub struct Reader<'a> {
     pub line: &'a [u8],
     pub at: usize,
@@ -16,7 +16,7 @@ pub struct Reader<'a> {
 
 // What a step hands back: the cell as a part of the line and the place after its bar, which after the last cell is the line's
 // length + 1. Done is a step from a place over the length: its cell is blank, and the place stays.
-#[derive(Drop)]
+#[derive(Clone, Copy)]
 pub struct Taken<'a> {
     pub cell: &'a [u8],
     pub next: usize,
@@ -76,7 +76,7 @@ pub fn first(line: &[u8]) -> &[u8]
 }
 
 // A step in numbers, for callers that hold no reader: how long the cell at a place is, the next place, and whether none is left.
-#[derive(Drop)]
+#[derive(Clone, Copy)]
 pub struct StepFrom {
     pub length: usize,
     pub next: usize,
