@@ -9,12 +9,12 @@ use borrow.Author.Tests.{eq-eqb, ne_eqb}
 use lib.Dec.{eqb, leb}
 use lib.ListN.{length, get_or, drop, length-drop}
 use lib.Seq.{drop-drop}
-use Rattle.text.specs.Class.{range, is}
+use Rattle.text.specs.Class.{range}
 use Rattle.text.proofs.Bools.{and_left}
 use Rattle.baskets.specs.declared.items.Holds.{Holds}
 use Rattle.baskets.specs.declared.items.Item.{Item as ItemRead}
 use Rattle.baskets.specs.declared.items.Part.{Part as PartRead}
-use Rattle.baskets.specs.Items.{Item, Part, spaces_in, value_right, all_right, item_in, behind, after_comma, fitting, items_in}
+use Rattle.baskets.specs.Items.{Item, Part, spaces_in, value_right, all_right, item_in, after_comma, fitting, items_in}
 use Rattle.baskets.specs.Told.{item_told, part_told}
 use Rattle.baskets.proofs.ItemLaws.{front_within, item_within, index_small, there_is, items_bad, items_closed, items_broken, items_more, further}
 

@@ -8,7 +8,7 @@ use borrow.Author.Tests.{eqb-true, eqb-false, leb-true, not-true}
 use lib.Dec.{eqb, leb, lit<}
 use lib.ListN.{length, get_or, take, drop, length-drop, length-take, drop_of_length-le}
 use Rattle.text.specs.Ascii.{ascii}
-use Rattle.text.specs.Class.{range, is}
+use Rattle.text.specs.Class.{range}
 use Rattle.text.specs.Shape.{suits, shape}
 use Rattle.text.specs.Word.{one_of}
 use Rattle.text.specs.Number.{number_of}

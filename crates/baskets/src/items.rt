@@ -4,20 +4,20 @@ ghost use Rattle.baskets.specs.Items.{in_front, item_in, items_in, basket_in};
 ghost use Rattle.baskets.specs.Told.{broken_off, between, value_told, item_told, part_told};
 
 // What the items of a basket hold.
-#[derive(Drop)]
+#[derive(Clone, Copy)]
 pub enum Holds {
     Isin,
     Term,
 }
 
 // The value in front of a text: how long it is, 0 where there is none, and whether its check digit is right.
-#[derive(Drop)]
+#[derive(Clone, Copy)]
 struct Value {
     size: usize,
     right: bool,
 }
 
-#[derive(Drop)]
+#[derive(Clone, Copy)]
 struct Item {
     good: bool,
     index: u64,
@@ -26,7 +26,7 @@ struct Item {
 }
 
 // What stands in front of a text: whether it is well formed, whether all its check digits are right, and how many bytes it takes.
-#[derive(Drop)]
+#[derive(Clone, Copy)]
 pub struct Part {
     pub good: bool,
     pub right: bool,

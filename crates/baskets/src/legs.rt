@@ -6,7 +6,7 @@ ghost use Rattle.baskets.specs.Told.{part_told};
 use crate::items::{Holds, Part, basket_in, broken_off, in_front};
 
 // What the word of cell 47 says.
-#[derive(Drop)]
+#[derive(Clone, Copy)]
 pub enum Kind {
     // SWAP:
     Swap,

@@ -6,7 +6,7 @@ ghost use Rattle.baskets.specs.Underlying.{kind_named, legs_from, underlying_of,
 use crate::items::{Holds, Part, in_front};
 use crate::legs::{Kind, legs_in};
 
-#[derive(Drop)]
+#[derive(Clone, Copy)]
 pub struct Underlying {
     pub kind: Kind,
     // a leg or a basket is there

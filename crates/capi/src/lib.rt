@@ -1,5 +1,5 @@
-// What include/boanhetri.h declares, for a host that links C: one line judged, a register converted, and a judged line noted in the
-// day's summary.
+// What include/boanhetri.h declares: one line judged, a register converted, and a judged line noted in the day's summary. The crate
+// capi_c exports these for a host that links C.
 #![tactic(auto)]
 
 ghost use Rattle.std.specs.Prelude.{not, eqb, length};
@@ -13,8 +13,7 @@ use summary::{Noted, Record, counted, entered, judged_line, reach, stops};
 use verdict::Verdict;
 
 // Polish identifiers are judged where `polish` is any number but 0.
-#[unsafe(no_mangle)]
-pub extern "C" fn boanhetri_judge(
+pub fn boanhetri_judge(
     line: &[u8],
     lei: &[u8],
     cty: &[u8],
@@ -45,8 +44,7 @@ pub extern "C" fn boanhetri_judge(
 }
 
 // A register of version 1, written into another buffer as version 2.
-#[unsafe(no_mangle)]
-pub extern "C" fn boanhetri_convert(from: &[u8], to: &mut [u8]) -> u16
+pub fn boanhetri_convert(from: &[u8], to: &mut [u8]) -> u16
     ensures { Converted from.now to.old result to.new }
 {
     register::convert(from, to)
@@ -54,8 +52,7 @@ pub extern "C" fn boanhetri_convert(from: &[u8], to: &mut [u8]) -> u16
 
 // Finds the record of the line's entity, or the first free one, and counts the line there; else in the common record. The kit has no
 // plan for a slice of structs, so this is proved by hand and does nothing else: what is counted and compared is in summary.
-#[unsafe(no_mangle)]
-pub extern "C" fn boanhetri_note(
+pub fn boanhetri_note(
     records: &mut [Record],
     common: &mut Record,
     line: &[u8],

@@ -16,9 +16,10 @@ ghost use Rattle.table.specs.Rows.{record_count, table_in, Rows};
 mod lines;
 
 use buffer::keep_all;
-use libc::{STDERR_FILENO, STDIN_FILENO, STDOUT_FILENO};
 use lines::{bare, line_end};
 use printing::{keep_answer, keep_row, listed};
+use std::io::{Input, Read};
+use std::rt::Env;
 use table::{ROW_COUNT, WIDTH};
 use verdict::CODE_COUNT;
 
@@ -93,7 +94,7 @@ fn one_more(n: u64) -> u64
 }
 
 // What a turn took of a chunk and put at the start of `out`, and how many bytes of the line are kept behind it, and its number.
-#[derive(Drop)]
+#[derive(Clone, Copy)]
 struct Turn {
     used: usize,
     written: usize,
@@ -166,7 +167,7 @@ fn finish(
 
 // Between two reads: how many bytes of the line are kept, the line's number, whether there is nothing more to read, and whether a
 // call failed.
-#[derive(Drop)]
+#[derive(Clone, Copy)]
 struct Place {
     kept: usize,
     number: u64,
@@ -175,10 +176,10 @@ struct Place {
 }
 
 // A call that failed ends the run, and the line that it broke off is not judged.
-fn broken_off(number: u64, message: &[u8]) -> Place
+fn broken_off(rt: &impl Eprint, number: u64, message: &str) -> Place
     ensures { (result.ended ≡ false) × (result.failed ≡ true) }
 {
-    io::write_all(STDERR_FILENO, message);
+    let _ = rt.eprint(message);
     Place {
         kept: 0,
         number,
@@ -192,6 +193,7 @@ fn broken_off(number: u64, message: &[u8]) -> Place
 const LONGEST: usize = 21 * (3 + CODE_COUNT);
 
 fn take_chunk(
+    rt: &(impl Print + Eprint),
     chunk: &[u8],
     line: &mut [u8],
     register: &mut [u8],
@@ -210,8 +212,8 @@ fn take_chunk(
     while at < chunk.len() {
         let left = text::rest(chunk, at);
         let turn = advance(left, line, register, names, numbers, kept, number, &mut out);
-        if !io::write_all(STDOUT_FILENO, text::head(&out, turn.written)) {
-            return broken_off(number, b"checker: an answer could not be written\n");
+        if rt.write_all(text::head(&out, turn.written)).is_err() {
+            return broken_off(rt, number, "checker: an answer could not be written\n");
         }
         kept = turn.kept;
         number = turn.number;
@@ -227,6 +229,7 @@ fn take_chunk(
 
 // Takes what a read that answered `got` put into the chunk.
 fn take_read(
+    rt: &(impl Print + Eprint),
     got: isize,
     chunk: &[u8],
     line: &mut [u8],
@@ -240,7 +243,7 @@ fn take_read(
     ensures { TookRead got chunk.now (held line.old place.kept place.number register.old names.old numbers.old) (held line.new result.kept result.number register.new names.new numbers.new) result.ended result.failed }
 {
     if got < 0 {
-        return broken_off(place.number, b"checker: the input could not be read\n");
+        return broken_off(rt, place.number, "checker: the input could not be read\n");
     }
     let n = io::count(got, chunk);
     if n == 0 {
@@ -251,11 +254,28 @@ fn take_read(
             failed: false,
         };
     }
-    take_chunk(text::head(chunk, n), line, register, names, numbers, place)
+    take_chunk(
+        rt,
+        text::head(chunk, n),
+        line,
+        register,
+        names,
+        numbers,
+        place,
+    )
+}
+
+// One read into the chunk: how many bytes it gave, or -1 where it failed.
+fn read_once(input: &mut impl Read, chunk: &mut [u8]) -> isize {
+    match input.read(chunk) {
+        Ok(n) => n as isize,
+        Err(_) => -1,
+    }
 }
 
 // Nothing says that the input ends, so the loop counts its turns down, from a number that no run uses up.
 fn read_all(
+    rt: &(impl Input + Print + Eprint),
     line: &mut [u8],
     register: &mut [u8],
     names: &mut [[u8; 20]],
@@ -265,6 +285,7 @@ fn read_all(
     requires rows { Rows names.old numbers.old }
     ensures { result.failed ≡ false → ReadOn (held line.old 0 1 register.old names.old numbers.old) (held line.new result.kept result.number register.new names.new numbers.new) result.ended 0 }
 {
+    let mut input = rt.reader();
     let mut chunk = io::large_buffer();
     let mut place = Place {
         kept: 0,
@@ -274,37 +295,39 @@ fn read_all(
     };
     let mut turns = u64::MAX;
     while turns > 0 && !place.ended && !place.failed {
-        let got = libc::read(STDIN_FILENO, &mut chunk);
-        place = take_read(got, &chunk, line, register, names, numbers, place);
+        let got = read_once(&mut input, &mut chunk);
+        place = take_read(rt, got, &chunk, line, register, names, numbers, place);
         turns -= 1;
     }
     place
 }
 
 // Whether the first argument asks for the summary.
-fn asks_summary() -> bool {
+fn asks_summary(rt: &impl Env) -> bool {
     let mut word = [0u8; 16];
-    let n = os::arg(1, &mut word);
-    text::same(text::head(&word, n), b"--summary")
+    match rt.arg(1, &mut word) {
+        Ok(n) => text::same(text::head(&word, n), b"--summary"),
+        Err(_) => false,
+    }
 }
 
 // How many rows of the table the summary was put of, and whether a write failed.
-#[derive(Drop)]
+#[derive(Clone, Copy)]
 struct Written {
     rows: usize,
     failed: bool,
 }
 
-fn write_summary(names: &[[u8; 20]], numbers: &[[u32; WIDTH]]) -> Written
+fn write_summary(rt: &impl Print, names: &[[u8; 20]], numbers: &[[u32; WIDTH]]) -> Written
     requires { Rows names.now numbers.now }
     ensures { result.failed ≡ false → result.rows ≡ record_count + 1 }
 {
     let mut out = [0u8; LONGEST];
-    let mut well = io::write_all(STDOUT_FILENO, b"summary\n");
+    let mut well = rt.write_all(b"summary\n").is_ok();
     let mut i = 0;
     while i < ROW_COUNT && well {
         let n = keep_row(&mut out, names, numbers, i);
-        well = io::write_all(STDOUT_FILENO, text::head(&out, n));
+        well = rt.write_all(text::head(&out, n)).is_ok();
         i += 1;
     }
     Written {
@@ -315,12 +338,12 @@ fn write_summary(names: &[[u8; 20]], numbers: &[[u32; WIDTH]]) -> Written
 
 // A line of at most 4,097 bytes, a CR of its end among them, is kept whole. A longer one is refused for its length, and so
 // is what is kept of it, so the rest is not needed.
-fn main() {
+fn main(rt: HostRuntime) {
     let mut line = [0u8; 4098];
     let mut register = empty_register();
     let mut names = [[0u8; 20]; ROW_COUNT];
     let mut numbers = [[0u32; WIDTH]; ROW_COUNT];
-    let place = read_all(&mut line, &mut register, &mut names, &mut numbers);
+    let place = read_all(&rt, &mut line, &mut register, &mut names, &mut numbers);
     if place.failed {
         return;
     }
@@ -334,13 +357,21 @@ fn main() {
         place.number,
         &mut out,
     );
-    if !io::write_all(STDOUT_FILENO, text::head(&out, n)) {
-        broken_off(place.number, b"checker: an answer could not be written\n");
+    if rt.write_all(text::head(&out, n)).is_err() {
+        broken_off(
+            &rt,
+            place.number,
+            "checker: an answer could not be written\n",
+        );
         return;
     }
-    if asks_summary() {
-        if write_summary(&names, &numbers).failed {
-            broken_off(place.number, b"checker: the summary could not be written\n");
+    if asks_summary(&rt) {
+        if write_summary(&rt, &names, &numbers).failed {
+            broken_off(
+                &rt,
+                place.number,
+                "checker: the summary could not be written\n",
+            );
         }
     }
 }

@@ -8,7 +8,7 @@ use crate::characters::value_of;
 use text::Class;
 
 // Read from the left it is open which digits will be doubled, so both sums are kept, by 10.
-#[derive(Drop)]
+#[derive(Clone, Copy)]
 struct Sums {
     // with the last digit as it is
     plain: u32,

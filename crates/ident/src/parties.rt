@@ -7,7 +7,7 @@ use crate::persons::{concat_shaped, number_shaped};
 use text::Class;
 
 // A kind, with the place in the cell where the part after its colon starts.
-#[derive(Drop)]
+#[derive(Clone, Copy)]
 pub enum Identifier {
     Intc,
     Nore,
@@ -20,7 +20,7 @@ pub enum Identifier {
     Malformed,
 }
 
-#[derive(Drop)]
+#[derive(Clone, Copy)]
 pub struct Party {
     pub identifier: Identifier,
     // a person identifier of the person shape
@@ -28,7 +28,7 @@ pub struct Party {
 }
 
 // The kinds that a cell allows.
-#[derive(Drop)]
+#[derive(Clone, Copy)]
 pub struct Allowed {
     pub intc: bool,
     pub nore: bool,

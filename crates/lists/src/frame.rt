@@ -6,7 +6,7 @@ ghost use Rattle.lists.specs.Frame.{framed};
 
 use text::{byte_at, le32, word};
 
-#[derive(Drop)]
+#[derive(Clone, Copy)]
 pub enum Mark {
     Lei,
     Cty,

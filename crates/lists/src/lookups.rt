@@ -7,21 +7,21 @@ use crate::scan::{
 };
 
 // Some row serves on the day: with status 1, 3 or 4; with any of 1 to 4; with any of these, whenever it was registered.
-#[derive(Drop)]
+#[derive(Clone, Copy)]
 pub struct LeiRows {
     pub unlapsed: bool,
     pub any: bool,
     pub whenever: bool,
 }
 
-#[derive(Drop)]
+#[derive(Clone, Copy)]
 pub struct CurrencyRows {
     pub current: bool,
     pub pre_euro: bool,
 }
 
 // An EEA venue, a systematic internaliser, a venue outside the EEA.
-#[derive(Drop)]
+#[derive(Clone, Copy)]
 pub struct VenueRows {
     pub kind1: bool,
     pub kind2: bool,
@@ -29,7 +29,7 @@ pub struct VenueRows {
 }
 
 // Some row on the day: whatever its CFI, one that matches a pattern of 330, one that matches a pattern of 350.
-#[derive(Drop)]
+#[derive(Clone, Copy)]
 pub struct InstrumentRows {
     pub listed: bool,
     pub debt: bool,

@@ -9,7 +9,7 @@ use borrow.Author.Tests.{not-true}
 use lib.ListN.{length, set}
 use lib.Seq.{sets}
 use Rattle.text.proofs.Bools.{and_left, and_right}
-use Rattle.register.specs.Frame.{place, day_width, used, capacity, framed, full, is_used, row_width}
+use Rattle.register.specs.Frame.{day_width, used, capacity, framed, full, is_used, row_width}
 use Rattle.register.specs.Written.{little_bytes, restated, appended}
 use Rattle.register.proofs.Stores.{sets_append}
 use Rattle.register.proofs.FrameLaws.{framed_is, capacity_small}

@@ -7,14 +7,14 @@ ghost use Rattle.register.specs.Rows.{first_row, standing, standing_at};
 use crate::frame::{is_used, row_width, used};
 use text::{begins_with, byte_at, head, next_row, rest, word};
 
-#[derive(Drop)]
+#[derive(Clone, Copy)]
 pub enum Found {
     // in the used row of that number, counted from 0
     At(usize),
     Nowhere,
 }
 
-#[derive(Drop)]
+#[derive(Clone, Copy)]
 pub enum Standing {
     Absent,
     Live,

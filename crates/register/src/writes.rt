@@ -19,6 +19,7 @@ pub fn write_le32(bytes: &mut [u8], at: usize, number: u32)
 }
 
 // Writes what a row keeps of its pair: the state and, where the row has the bytes for it, the day.
+#[tactic(auto, using(crate::proofs::WriteLaws::day_stored, crate::proofs::WriteLaws::state_stored))]
 fn write_value(register: &mut [u8], width: usize, at: usize, state: u8, day: u32)
     requires { ((width ≡ 74) ⊎ (width ≡ 78)) × (at + (width - 73) ≤ length register.old) }
     ensures { register.new ≡ sets register.old at (state ∷ little_bytes (width - 74) day) }

@@ -14,10 +14,10 @@ mod numbers;
 mod reading;
 mod results;
 
-use libc::STDOUT_FILENO;
 use numbers::{ENTRIES, entries_in, le64};
 use reading::{Field, fault, read_field, read_part};
 use results::keep_result;
+use std::io::Input;
 
 // The most bytes that a line has.
 const LINE: usize = 4200;
@@ -63,6 +63,7 @@ fn result(
 // The moment is the day and the microsecond, of 4 and 8 bytes; the 4 behind it say whether Polish identifiers are judged: where they are not 0.
 // What is expected of a case takes as many bytes as its result: it is read over that, and dropped.
 fn report(
+    rt: &(impl Input + Print + Eprint),
     line: &[u8],
     lists: &[u8],
     lengths: &[usize; 5],
@@ -85,25 +86,39 @@ fn report(
         findings,
         &mut out,
     );
-    if !io::write_all(STDOUT_FILENO, text::head(&out, n)) {
-        return fault(b"replay: a result could not be written\n");
+    if rt.write_all(text::head(&out, n)).is_err() {
+        return fault(rt, "replay: a result could not be written\n");
     }
-    read_part(&mut out, n)
+    read_part(rt, &mut out, n)
 }
 
 // A case from its moment on: 12 bytes, 4 for Polish identifiers, and 4 of how many entries the findings buffer has.
-fn take_findings(line: &[u8], lists: &[u8], lengths: &[usize; 5], register: &mut [u8]) -> bool {
+fn take_findings(
+    rt: &(impl Input + Print + Eprint),
+    line: &[u8],
+    lists: &[u8],
+    lengths: &[usize; 5],
+    register: &mut [u8],
+) -> bool {
     let mut moment = [0u8; 20];
     let mut bytes = [0u8; 2 * ENTRIES];
-    if !read_part(&mut moment, 20) {
+    if !read_part(rt, &mut moment, 20) {
         return false;
     }
     let n = text::le32(&moment, 16) as usize;
-    if !read_part(&mut bytes, 2 * n) {
+    if !read_part(rt, &mut bytes, 2 * n) {
         return false;
     }
     let mut findings = entries_in(&bytes);
-    report(line, lists, lengths, register, &moment, &mut findings[..n])
+    report(
+        rt,
+        line,
+        lists,
+        lengths,
+        register,
+        &moment,
+        &mut findings[..n],
+    )
 }
 
 fn all_read(lengths: &[usize; 5]) -> bool {
@@ -114,53 +129,68 @@ fn all_read(lengths: &[usize; 5]) -> bool {
         & (lengths[4] < UNREAD)
 }
 
-fn take_case(lists: &[u8], lengths: &[usize; 5]) -> bool {
+fn take_case(rt: &(impl Input + Print + Eprint), lists: &[u8], lengths: &[usize; 5]) -> bool {
     let mut line = [0u8; LINE];
     let mut register = [0u8; REGISTER];
     if !all_read(lengths) {
-        return fault(b"replay: a list is missing before a case\n");
+        return fault(rt, "replay: a list is missing before a case\n");
     }
-    let Field::Bytes(n) = read_field(&mut line) else {
+    let Field::Bytes(n) = read_field(rt, &mut line) else {
         return false;
     };
-    let Field::Bytes(r) = read_field(&mut register) else {
+    let Field::Bytes(r) = read_field(rt, &mut register) else {
         return false;
     };
-    take_findings(text::head(&line, n), lists, lengths, &mut register[..r])
+    take_findings(rt, text::head(&line, n), lists, lengths, &mut register[..r])
 }
 
-fn take_list(lists: &mut [u8], lengths: &mut [usize; 5], k: usize) -> bool
+fn take_list(
+    rt: &(impl Input + Eprint),
+    lists: &mut [u8],
+    lengths: &mut [usize; 5],
+    k: usize,
+) -> bool
     requires { (k < 5) × (20480 ≤ length lists.old) }
 {
     let start = k * LIST;
     let end = start + LIST;
-    let Field::Bytes(n) = read_field(&mut lists[start..end]) else {
+    let Field::Bytes(n) = read_field(rt, &mut lists[start..end]) else {
         return false;
     };
     lengths[k] = n;
     true
 }
 
-fn take_record(lists: &mut [u8], lengths: &mut [usize; 5], kind: u32) -> bool
+fn take_record(
+    rt: &(impl Input + Print + Eprint),
+    lists: &mut [u8],
+    lengths: &mut [usize; 5],
+    kind: u32,
+) -> bool
     requires { 20480 ≤ length lists.old }
 {
     match kind {
-        1..=5 => take_list(lists, lengths, kind as usize - 1),
-        6 => take_case(lists, lengths),
-        _ => fault(b"replay: a record of an unknown kind\n"),
+        1..=5 => take_list(rt, lists, lengths, kind as usize - 1),
+        6 => take_case(rt, lists, lengths),
+        _ => fault(rt, "replay: a record of an unknown kind\n"),
     }
 }
 
 // Answers how many cases are left, none where the run is to end.
-fn next_record(lists: &mut [u8], lengths: &mut [usize; 5], left: u32) -> u32
+fn next_record(
+    rt: &(impl Input + Print + Eprint),
+    lists: &mut [u8],
+    lengths: &mut [usize; 5],
+    left: u32,
+) -> u32
     requires { (0 < left) × (20480 ≤ length lists.old) }
 {
     let mut bytes = [0u8; 4];
-    if !read_part(&mut bytes, 4) {
+    if !read_part(rt, &mut bytes, 4) {
         return 0;
     }
     let kind = text::le32(&bytes, 0);
-    if !take_record(lists, lengths, kind) {
+    if !take_record(rt, lists, lengths, kind) {
         return 0;
     }
     if kind == 6 {
@@ -170,27 +200,32 @@ fn next_record(lists: &mut [u8], lengths: &mut [usize; 5], left: u32) -> u32
 }
 
 // Nothing says that cases follow, so the loop counts its turns down, from a number that no run uses up.
-fn take_all(lists: &mut [u8], lengths: &mut [usize; 5], cases: u32)
+fn take_all(
+    rt: &(impl Input + Print + Eprint),
+    lists: &mut [u8],
+    lengths: &mut [usize; 5],
+    cases: u32,
+)
     requires { 20480 ≤ length lists.old }
 {
     let mut left = cases;
     let mut turns = u64::MAX;
     while turns > 0 && left > 0 {
-        left = next_record(lists, lengths, left);
+        left = next_record(rt, lists, lengths, left);
         turns -= 1;
     }
 }
 
-fn main() {
+fn main(rt: HostRuntime) {
     let mut head = [0u8; 12];
-    if !read_part(&mut head, 12) {
+    if !read_part(&rt, &mut head, 12) {
         return;
     }
     if !text::starts_with(&head, b"CASE\x02\x00\x00\x00") {
-        fault(b"replay: this is no file of cases of version 2\n");
+        fault(&rt, "replay: this is no file of cases of version 2\n");
         return;
     }
     let mut lists = [0u8; LISTS];
     let mut lengths = [UNREAD; 5];
-    take_all(&mut lists, &mut lengths, text::le32(&head, 8));
+    take_all(&rt, &mut lists, &mut lengths, text::le32(&head, 8));
 }

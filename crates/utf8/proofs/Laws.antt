@@ -27,12 +27,12 @@ below low (upto most next ∷ rows) = ltb most low && below low rows
 
 abbrev pub reach : ℕ → List Row → ℕ
 reach j [] = 0
-reach zero (upto most next ∷ rows) = most
+reach zero (upto most next ∷ _) = most
 reach (suc j) (row ∷ rows) = reach j rows
 
 abbrev pub following : ℕ → List Row → Next
 following j [] = Never
-following zero (upto most next ∷ rows) = next
+following zero (upto most next ∷ _) = next
 following (suc j) (row ∷ rows) = following j rows
 
 -- the row of a byte is the one that reaches it where all before end below it

@@ -11,7 +11,7 @@ use text::{Class, all_of};
 
 // What may come next: the first byte of a code point or the end; or a byte of a range and then a number of
 // continuation bytes; or nothing, since the bytes so far begin no text.
-#[derive(Drop)]
+#[derive(Clone, Copy)]
 enum Next {
     First,
     Tail(u8, u8, u8),
@@ -19,7 +19,7 @@ enum Next {
 }
 
 // How many code points the bytes are, if all of them are well-formed and allowed.
-#[derive(Drop)]
+#[derive(Clone, Copy)]
 pub enum Points {
     Count(usize),
     Malformed,

@@ -2,6 +2,8 @@
 // called on. A line that opens with # begins a group, whose count is printed behind its name.
 #![tactic(auto)]
 
+ghost use Rattle.std.specs.Prelude.{◌≤◌, length};
+
 mod answers;
 mod judging;
 mod leaves;
@@ -13,10 +15,10 @@ mod underlying;
 mod values;
 
 use answers::answer;
-use libc::STDOUT_FILENO;
 use reading::place_of;
+use std::io::{Input, Read};
 
-#[derive(Drop)]
+#[derive(Clone, Copy)]
 struct Tally {
     right: u32,
     wrong: u32,
@@ -42,12 +44,10 @@ fn counted(tally: Tally, right: bool) -> Tally {
     }
 }
 
-fn report(tally: Tally) {
-    io::write_all(STDOUT_FILENO, b": ");
-    io::print_decimal(STDOUT_FILENO, tally.right as u64);
-    io::write_all(STDOUT_FILENO, b" right, ");
-    io::print_decimal(STDOUT_FILENO, tally.wrong as u64);
-    io::write_all(STDOUT_FILENO, b" wrong\n");
+fn report(rt: &impl Print, tally: Tally) {
+    let right = tally.right;
+    let wrong = tally.wrong;
+    let _ = println!(rt; ": {right} right, {wrong} wrong");
 }
 
 // A case: expected number, call, input, parted by single spaces.
@@ -59,35 +59,49 @@ fn is_right(line: &[u8]) -> bool {
     answer(call, text::rest(line, second + 1)) == expected
 }
 
-fn take_line(line: &[u8], tally: Tally) -> Tally {
+fn take_line(rt: &impl Print, line: &[u8], tally: Tally) -> Tally {
     if text::starts_with(line, b"#") {
         if (0 < tally.right) | (0 < tally.wrong) {
-            report(tally);
+            report(rt, tally);
         }
-        io::write_all(STDOUT_FILENO, text::rest(line, 2));
+        let _ = rt.write_all(text::rest(line, 2));
         return Tally { right: 0, wrong: 0 };
     }
     let right = is_right(line);
     if !right {
-        io::write_all(STDOUT_FILENO, b"\nwrong: ");
-        io::write_all(STDOUT_FILENO, line);
+        let _ = rt.write_all(b"\nwrong: ");
+        let _ = rt.write_all(line);
     }
     counted(tally, right)
 }
 
-fn run(cases: &[u8]) {
+fn run(rt: &impl Print, cases: &[u8]) {
     let mut tally = Tally { right: 0, wrong: 0 };
     let mut at = 0;
     while at < cases.len() {
         let end = place_of(cases, 10, at);
-        tally = take_line(text::part(cases, at, end), tally);
+        tally = take_line(rt, text::part(cases, at, end), tally);
         at = end + 1;
     }
-    report(tally);
+    report(rt, tally);
 }
 
-fn main() {
+// Reads until the buffer is full, the input ends or a read fails, and answers how many bytes it put at the buffer's start.
+fn read_full(input: &mut impl Read, buffer: &mut [u8]) -> usize
+    ensures { result ≤ length buffer.new }
+{
+    let mut done = 0;
+    while done < buffer.len() {
+        match input.read(&mut buffer[done..]) {
+            Ok(n) if n > 0 => done += n,
+            _ => break,
+        }
+    }
+    done
+}
+
+fn main(rt: HostRuntime) {
     let mut cases = [0u8; 524288];
-    let n = io::read_full(0, &mut cases);
-    run(&cases[..n]);
+    let n = read_full(&mut rt.reader(), &mut cases);
+    run(&rt, &cases[..n]);
 }

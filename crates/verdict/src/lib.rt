@@ -16,7 +16,7 @@ use crate::codes::CODES;
 pub use codes::{BASE_COUNT, CODE_COUNT, RULE_COUNT};
 
 #[repr(C)]
-#[derive(Drop)]
+#[derive(Clone, Copy)]
 pub struct Verdict {
     // 0, or the number of a refusal
     pub answer: u16,

@@ -1,0 +1,16 @@
+use mathlib.Core.Path.{◌∙◌}
+use native.Mathlib.Omega.{arith}
+use Rattle.utf8.proofs.Laws.{read_start, read_on, read_end, starts_small}
+use Rattle.utf8.proofs.code_points.Goals as goal
+
+pub loop-i-init : goal.loop-i-init
+loop-i-init c = read_start
+
+pub overflow_add-n : goal.overflow_add-n
+overflow_add-n c = omega (arith, starts_small c.loop-i.next, c.starts-n.ensures)
+
+pub loop-i-preserved : goal.loop-i-preserved
+loop-i-preserved c = rw (c.after-next.ensures, c.starts-n.ensures) (read_on c.loop-i.invariant (omega arith))
+
+pub returns : goal.returns
+returns c = c.ended.ensures ∙ read_end c.loop-i.invariant (omega arith)
