@@ -25,6 +25,18 @@ module _ (s : List ℕ) (i : ℕ) (h : i < length s) where
 pub first_end : (s : List ℕ) (i : ℕ) → length s ≤ i → first_cell (drop i s) ≡ []
 first_end s i h = rw (drop_of_length-le s h)
 
+-- where a walk from a place stops, at a bar or at the end, the next place is one behind
+module _ (line : List ℕ) (at end : ℕ) (begun : at ≤ length line) (same : end + length (first_cell (drop end line)) ≡ at + length (first_cell (drop at line))) where
+  stops_where : first_cell (drop end line) ≡ [] → end + 1 ≡ place_after line at
+  unfolding place_after is_over cell_from
+  stops_where there = rw (le-ltb _ _ begun) (omega (arith, same, ap length there))
+
+  pub stops_at_bar : end < length line → get_or line end 0 ≡ 124 → end + 1 ≡ place_after line at
+  stops_at_bar h e = stops_where (first_bar line end h e)
+
+  pub stops_at_end : length line ≤ end → end + 1 ≡ place_after line at
+  stops_at_end h = stops_where (first_end line end h)
+
 -- a cell is the part of the line that is as long as it
 pub first_is_part : (s : List ℕ) → take (length (first_cell s)) s ≡ first_cell s
 first_is_part [] = refl

@@ -35,6 +35,7 @@ pub fn is_done(line: &[u8], at: usize) -> bool
     line.len() < at
 }
 
+#[tactic(auto, using(crate::proofs::ReadingLaws::first_other, crate::proofs::ReadingLaws::stops_at_bar, crate::proofs::ReadingLaws::stops_at_end))]
 pub fn place_after(line: &[u8], at: usize) -> usize
     ensures { result ≡ place_after line.now at }
 {
