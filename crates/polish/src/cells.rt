@@ -7,7 +7,7 @@ use crate::numbers::{nip_right, pesel_right};
 use ident::Party;
 use text::Class;
 
-#[derive(Drop)]
+#[derive(Clone, Copy)]
 pub struct Polish {
     // 3307, 3308 and 3309
     pub form: bool,
