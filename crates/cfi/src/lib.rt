@@ -421,6 +421,7 @@ pub fn debt_and_bond(cfi: &[u8]) -> [bool; 2]
 
 // Of each of the 19 codes by CFI, in rising order, whether it is violated. Every pattern has six letters, and most lines have
 // no CFI: then nothing is walked.
+#[tactic(auto, using(crate::proofs::NoCfi::no_cfi))]
 pub fn cfi_findings(kinds: &[u8; 66], cfi: &[u8]) -> [bool; 19]
     ensures { result ≡ cfi_findings kinds.now cfi.now }
 {

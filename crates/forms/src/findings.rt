@@ -12,7 +12,7 @@ use crate::read::read_cells;
 use text::Class;
 
 // What cell 1 says of a line.
-#[derive(Drop)]
+#[derive(Clone, Copy)]
 pub enum Status {
     // NEW
     New,

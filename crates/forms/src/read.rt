@@ -9,7 +9,7 @@ use calendar::{Date, When};
 use ident::Party;
 
 // The parties of 7, 12, 16, 21, 57 and 59, the dates, the moment of 28, the quantity of 30, the price of 33, the legs of 47.
-#[derive(Drop)]
+#[derive(Clone, Copy)]
 pub struct Read {
     pub buyer: Party,
     pub buyer_for: Party,

@@ -1,5 +1,5 @@
 // The forms that the paper names, each with the cells that have it.
-#[derive(Drop)]
+#[derive(Clone, Copy)]
 pub enum Form {
     // 1
     ReportStatus,

@@ -1,0 +1,15 @@
+use mathlib.Core.Path.{sym, ◌∙◌}
+use Rattle.forms.specs.Findings.{status_of}
+use Rattle.forms.proofs.findings.status_of.Goals as goal
+
+pub returns-then-same : goal.returns-then-same
+unfolding status_of
+returns-then-same c = rw (sym c.same.ensures ∙ c.if-same.true)
+
+pub returns-then-same-2 : goal.returns-then-same-2
+unfolding status_of
+returns-then-same-2 c = rw (sym c.same.ensures ∙ c.if-same.false, sym c.same-2.ensures ∙ c.if-same-2.true)
+
+pub returns : goal.returns
+unfolding status_of
+returns c = rw (sym c.same.ensures ∙ c.if-same.false, sym c.same-2.ensures ∙ c.if-same-2.false)
