@@ -10,7 +10,7 @@ use lib.Seq.{drop-drop, take_all}
 use Rattle.text.proofs.Lists.{part_to_end}
 use Rattle.verdict.specs.declared.Verdict.{Verdict}
 use Rattle.verdict.specs.Codes.{code_count}
-use Rattle.verdict.specs.Verdict.{word_of, words, codes_found, verdict_of}
+use Rattle.verdict.specs.Verdict.{word_of, codes_found, verdict_of}
 use Rattle.verdict.proofs.Promises.{bits_are_listed, ours}
 
 -- the last word has what is left of the flags

@@ -13,8 +13,8 @@ use lib.ListN.{length, get_or, take, drop, set, length-set, take-append-drop, le
 use lib.Seq.{take-suc-set, drop-set-lt, append_snoc}
 use Rattle.text.proofs.Bools.{by_test}
 use Rattle.text.proofs.Lists.{rest_at}
-use Rattle.verdict.specs.Codes.{rule_codes, form_codes, polish_codes, codes, code_count}
-use Rattle.verdict.specs.Verdict.{bit, word_of, words, keep, pick, codes_found, verdict_of}
+use Rattle.verdict.specs.Codes.{codes, code_count}
+use Rattle.verdict.specs.Verdict.{word_of, words, keep, pick, codes_found, verdict_of}
 use Rattle.verdict.specs.Findings.{over}
 use Rattle.verdict.specs.Counted.{bits_set}
 use Rattle.verdict.specs.Bits.{bits_of, flags_in, listed_by, over_from, Listed}
