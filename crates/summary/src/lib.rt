@@ -21,7 +21,7 @@ pub const MOST_RECORDS: usize = 256;
 const TOP: u32 = 4294967295;
 
 // A line counts under one of five headings.
-#[derive(Drop)]
+#[derive(Clone, Copy)]
 pub enum Kind {
     // accepted
     New,
@@ -35,7 +35,7 @@ pub enum Kind {
 }
 
 // What is counted of a line. An entity whose first byte is 0 is none: the line is the common record's.
-#[derive(Drop)]
+#[derive(Clone, Copy)]
 pub struct Line {
     pub entity: [u8; 20],
     pub kind: Kind,
@@ -44,7 +44,7 @@ pub struct Line {
 
 // Free while the first byte of its entity is 0. `codes` has the lines with each code, in the order of the codes.
 #[repr(C)]
-#[derive(Drop)]
+#[derive(Clone, Copy)]
 pub struct Record {
     pub entity: [u8; 20],
     pub accepted: u32,
@@ -57,20 +57,20 @@ pub struct Record {
 
 // Where a line was counted, and whether a counter that it should have raised was at its top.
 #[repr(C)]
-#[derive(Drop)]
+#[derive(Clone, Copy)]
 pub struct Noted {
     pub common: bool,
     pub stuck: bool,
 }
 
 // A record with one more line in it, and whether a counter stayed at its top.
-#[derive(Drop)]
+#[derive(Clone, Copy)]
 pub struct Tally {
     pub after: Record,
     pub stuck: bool,
 }
 
-#[derive(Drop)]
+#[derive(Clone, Copy)]
 pub struct Raised {
     pub counters: [u32; CODE_COUNT],
     pub stuck: bool,
