@@ -2,21 +2,21 @@
 use lists::{CurrencyRows, InstrumentRows, VenueRows};
 
 // A LEI is good on a day: for status 1, 3 or 4, and for any of 1 to 4.
-#[derive(Drop)]
+#[derive(Clone, Copy)]
 pub struct LeiFit {
     pub unlapsed: bool,
     pub any: bool,
 }
 
 // Of a party: its LEI is good, its person's country is known, its MIC is of kind 1 or 3. A list is read only for the kind that it is of.
-#[derive(Drop)]
+#[derive(Clone, Copy)]
 pub struct PartyAsked {
     pub lei: bool,
     pub country: bool,
     pub mic: bool,
 }
 
-#[derive(Drop)]
+#[derive(Clone, Copy)]
 pub struct PartiesAsked {
     pub buyer: PartyAsked,
     pub buyer_for: PartyAsked,
@@ -25,7 +25,7 @@ pub struct PartiesAsked {
 }
 
 // Cells 4, 6, 26 and 27.
-#[derive(Drop)]
+#[derive(Clone, Copy)]
 pub struct EntityAsked {
     pub executing: LeiFit,
     pub submitting: LeiFit,
@@ -34,7 +34,7 @@ pub struct EntityAsked {
 }
 
 // Cells 31, 34, 44, 45 and 52.
-#[derive(Drop)]
+#[derive(Clone, Copy)]
 pub struct MoneyAsked {
     pub quantity: CurrencyRows,
     pub price: CurrencyRows,
@@ -43,7 +43,7 @@ pub struct MoneyAsked {
     pub strike: CurrencyRows,
 }
 
-#[derive(Drop)]
+#[derive(Clone, Copy)]
 pub struct Asked {
     pub entity: EntityAsked,
     pub parties: PartiesAsked,

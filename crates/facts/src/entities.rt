@@ -5,7 +5,7 @@ ghost use Rattle.facts.specs.Facts.{entity_from};
 
 use crate::answers::EntityAsked;
 
-#[derive(Drop)]
+#[derive(Clone, Copy)]
 pub struct EntityFacts {
     // 040 and 041
     pub member: bool,

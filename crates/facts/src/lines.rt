@@ -15,7 +15,7 @@ use crate::trades::{TradeFacts, holdings, trade_facts};
 use forms::Read;
 use register::Standing;
 
-#[derive(Drop)]
+#[derive(Clone, Copy)]
 pub struct DealFacts {
     // 251, 290 and 570
     pub transmitted: bool,
@@ -23,7 +23,7 @@ pub struct DealFacts {
     pub undecided: bool,
 }
 
-#[derive(Drop)]
+#[derive(Clone, Copy)]
 pub struct Facts {
     // cell f has no form finding, by its number; 0 stands for no cell
     pub ok: [bool; 66],

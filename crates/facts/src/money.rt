@@ -7,7 +7,7 @@ ghost use Rattle.facts.specs.Facts.{currency_from, quantity_currency_from, money
 use crate::answers::MoneyAsked;
 use lists::CurrencyRows;
 
-#[derive(Drop)]
+#[derive(Clone, Copy)]
 pub struct MoneyFacts {
     // 310, 340, 440, 451 and 520
     pub quantity: bool,

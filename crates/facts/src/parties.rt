@@ -10,7 +10,7 @@ use calendar::Date;
 use forms::Read;
 use ident::Party;
 
-#[derive(Drop)]
+#[derive(Clone, Copy)]
 pub struct PartyFacts {
     // 070, 071, 072, 073, 074 and 110 of the buyer, and their kin
     pub lei: bool,
@@ -23,7 +23,7 @@ pub struct PartyFacts {
     pub entity: bool,
 }
 
-#[derive(Drop)]
+#[derive(Clone, Copy)]
 pub struct PartiesFacts {
     pub buyer: PartyFacts,
     pub buyer_for: PartyFacts,

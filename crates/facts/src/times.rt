@@ -7,7 +7,7 @@ ghost use Rattle.facts.specs.Facts.{time_from};
 use calendar::{Date, Moment, When};
 use forms::Read;
 
-#[derive(Drop)]
+#[derive(Clone, Copy)]
 pub struct TimeFacts {
     // 280 and 281
     pub not_before: bool,

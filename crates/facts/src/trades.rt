@@ -12,7 +12,7 @@ use baskets::{Kind, Underlying};
 use forms::Read;
 use lists::{InstrumentRows, VenueRows};
 
-#[derive(Drop)]
+#[derive(Clone, Copy)]
 pub struct TradeFacts {
     // 030, 360, 361, 362, 370 and 372
     pub no_code: bool,
