@@ -1,2 +1,3 @@
 -- The answers of the step that asks the lists.
+pub mod PartyLei
 mod Unique

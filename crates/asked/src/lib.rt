@@ -30,6 +30,7 @@ pub fn lei_fit(lei: &[u8], s: &[u8], day: u32) -> LeiFit
 
 // For parties two sets of conditions stand side by side, chosen by the day of the trade: until 2 July 2018 the day of registration is not
 // asked for.
+#[tactic(auto, using(crate::proofs::PartyLei::until_the_day, crate::proofs::PartyLei::from_the_day))]
 fn party_lei_good(lei: &[u8], s: &[u8], t: u32) -> bool
     ensures { result ≡ party_lei_good lei.now s.now t }
 {
