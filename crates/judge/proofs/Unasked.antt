@@ -1,7 +1,7 @@
 -- A call that does not ask for Polish identifiers: its outcome is by 138 codes, and nothing of it depends on what those rules say.
 use mathlib.Core.Path.{◌≡◌, ◌∙◌, refl, ap}
-use mathlib.Core.Bool.{Bool, false, cond, not, ◌&&◌}
-use mathlib.Core.List.{List, [], ◌∷◌, ◌++◌, append-nil, append_assoc}
+use mathlib.Core.Bool.{Bool, false, cond, ◌&&◌}
+use mathlib.Core.List.{List, [], ◌∷◌, ◌++◌, append-nil}
 use Prim.Native.Nat.{ℕ}
 use lib.Dec.{eqb, ltb}
 use lib.ListN.{length, take}
@@ -10,7 +10,7 @@ use Rattle.forms.specs.Findings.{form_findings}
 use Rattle.register.specs.Frame.{full}
 use Rattle.facts.specs.Call.{Call, call}
 use Rattle.facts.specs.Words.{is_absent}
-use Rattle.facts.specs.Rules.{is_new, standing_of, flags, polish_flags, all_flags}
+use Rattle.facts.specs.Rules.{is_new, standing_of, flags, all_flags}
 use Rattle.verdict.specs.Codes.{rule_codes, form_codes, polish_codes, codes, base_count, entries_needed}
 use Rattle.verdict.specs.Verdict.{word_of, words, pick, codes_found, verdict_of}
 use Rattle.verdict.proofs.WordLaws.{pick_append}
