@@ -2,7 +2,7 @@
 // called on. A line that opens with # begins a group, whose count is printed behind its name.
 #![tactic(auto)]
 
-ghost use Rattle.std.specs.Prelude.{◌≤◌, length};
+ghost use Rattle.std.specs.Prelude.{◌≡◌, ◌≤◌, length};
 
 mod answers;
 mod judging;
@@ -100,8 +100,15 @@ fn read_full(input: &mut impl Read, buffer: &mut [u8]) -> usize
     done
 }
 
+// Room for the cases. Lending it needs its length alone, so no more is said of it.
+fn room() -> [u8; 524288]
+    ensures { 524288 ≡ length result }
+{
+    [0; 524288]
+}
+
 fn main(rt: HostRuntime) {
-    let mut cases = [0u8; 524288];
+    let mut cases = room();
     let n = read_full(&mut rt.reader(), &mut cases);
     run(&rt, &cases[..n]);
 }
