@@ -12,7 +12,7 @@ use Rattle.text.specs.Ascii.{ascii}
 use Rattle.text.proofs.Bools.{and_left, and_right, by_test}
 use Rattle.baskets.specs.declared.items.Holds.{Holds}
 use Rattle.baskets.specs.Items.{Item, Part, in_front, spaces_in, item_in, items_in, basket_in, stands, joined, ended, behind, none, after_comma}
-use Rattle.baskets.specs.Grammar.{spaces, index_of, itemText, ItemsWritten, last, more}
+use Rattle.baskets.specs.Grammar.{spaces, index_of, item_text, ItemsWritten, last, more}
 use Rattle.baskets.proofs.FrontLaws.{clash, in_front_both, spaces_length, spaces_count, spaces_passed, stands_first, byte_and_spaces}
 use Rattle.baskets.proofs.GrammarItems.{ItemFound, item_begins, item_accepted, item_only}
 
@@ -26,24 +26,24 @@ comma_read gap text begins = rw (spaces_count gap text begins) (omega arith)
 -- items that are written, in front of any rest
 module _ {holds : Holds} where
   items_begin : {most least : ℕ} {text : List ℕ} {values : List (List ℕ)} → ItemsWritten holds most least text values → (rest : List ℕ) → spaces_in (text ++ rest) ≡ 0
-  items_begin (last i h) rest = rw (append_assoc (itemText i) (ascii "}") rest) (item_begins i _)
-  items_begin (more {text = text} i gap h w) rest = rw (append_assoc (itemText i) (44 ∷ (spaces gap ++ text)) rest) (item_begins i _)
+  items_begin (last i h) rest = rw (append_assoc (item_text i) (ascii "}") rest) (item_begins i _)
+  items_begin (more {text = text} i gap h w) rest = rw (append_assoc (item_text i) (44 ∷ (spaces gap ++ text)) rest) (item_begins i _)
 
   items_accepted : {most least : ℕ} {text : List ℕ} {values : List (List ℕ)} → ItemsWritten holds most least text values
       → (rest : List ℕ) → items_in holds most least (text ++ rest) ≡ all_good text values
   unfolding items_in in_front
   items_accepted (last {least = least} i h) rest =
-      rw (append_assoc (itemText i) (ascii "}") rest, item_accepted i (125 ∷ rest) refl, le-leb least (index_of i) h, drop-append_seam (itemText i) (125 ∷ rest), length-append (itemText i) (ascii "}"))
+      rw (append_assoc (item_text i) (ascii "}") rest, item_accepted i (125 ∷ rest) refl, le-leb least (index_of i) h, drop-append_seam (item_text i) (125 ∷ rest), length-append (item_text i) (ascii "}"))
   items_accepted (more {least = least} {text = text} {values = values} i gap h w) rest =
       let comma : List ℕ = 44 ∷ (spaces gap ++ (text ++ rest)) in
-      let parts : (itemText i ++ (44 ∷ (spaces gap ++ text))) ++ rest ≡ itemText i ++ comma = append_assoc (itemText i) (44 ∷ (spaces gap ++ text)) rest ∙ ap (λ (t : List ℕ). itemText i ++ 44 ∷ t) (append_assoc (spaces gap) text rest) in
-      let long : length (itemText i) + (suc gap + length text) ≡ length (itemText i ++ 44 ∷ (spaces gap ++ text)) =
-      omega (arith, length-append (itemText i) (44 ∷ (spaces gap ++ text)), length-append (spaces gap) text, spaces_length gap) in
+      let parts : (item_text i ++ (44 ∷ (spaces gap ++ text))) ++ rest ≡ item_text i ++ comma = append_assoc (item_text i) (44 ∷ (spaces gap ++ text)) rest ∙ ap (λ (t : List ℕ). item_text i ++ 44 ∷ t) (append_assoc (spaces gap) text rest) in
+      let long : length (item_text i) + (suc gap + length text) ≡ length (item_text i ++ 44 ∷ (spaces gap ++ text)) =
+      omega (arith, length-append (item_text i) (44 ∷ (spaces gap ++ text)), length-append (spaces gap) text, spaces_length gap) in
       rw (
         parts,
         item_accepted i comma refl,
         le-leb least (index_of i) h,
-        drop-append_seam (itemText i) comma,
+        drop-append_seam (item_text i) comma,
         comma_read gap (text ++ rest) (items_begin w rest),
         spaces_passed gap (text ++ rest),
         items_accepted w rest,
@@ -58,43 +58,43 @@ pub record Found (Written : List ℕ → List (List ℕ) → Type 0) (s : List �
 
 -- an item, and what ends it
 module _ (most : ℕ) {holds : Holds} {least : ℕ} {s : List ℕ} {i : Item} (item : ItemFound holds s i) (rises : least ≤ i.index) where
-  abbrev behindItem : List ℕ
-  behindItem = drop i.size s
+  abbrev behind_item : List ℕ
+  behind_item = drop i.size s
 
   rises_too : least ≤ index_of item.words
   rises_too = rw item.index_is rises
 
-  last_found : stands "}" 0 behindItem ≡ true → Found (ItemsWritten holds (suc most) least) s (joined i (record { good = true; values = []; size = 1 }))
+  last_found : stands "}" 0 behind_item ≡ true → Found (ItemsWritten holds (suc most) least) s (joined i (record { good = true; values = []; size = 1 }))
   last_found e =
       record {
-        text = itemText item.words ++ ascii "}";
-        written = subst (λ (v : List ℕ). ItemsWritten holds (suc most) least (itemText item.words ++ ascii "}") (v ∷ [])) item.value_is (last item.words rises_too);
-        text_is = in_front_both (itemText item.words) (ascii "}") i.size 1 item.text_is (stands_first 124 behindItem e);
+        text = item_text item.words ++ ascii "}";
+        written = subst (λ (v : List ℕ). ItemsWritten holds (suc most) least (item_text item.words ++ ascii "}") (v ∷ [])) item.value_is (last item.words rises_too);
+        text_is = in_front_both (item_text item.words) (ascii "}") i.size 1 item.text_is (stands_first 124 behind_item e);
       }
 
   abbrev gap : ℕ
-  gap = spaces_in (drop 1 behindItem)
+  gap = spaces_in (drop 1 behind_item)
 
-  more_found : {next : Part} → stands "," 0 behindItem ≡ true → Found (ItemsWritten holds most (suc i.index)) (drop (after_comma behindItem) behindItem) next
-      → Found (ItemsWritten holds (suc most) least) s (joined i (behind (after_comma behindItem) next))
+  more_found : {next : Part} → stands "," 0 behind_item ≡ true → Found (ItemsWritten holds most (suc i.index)) (drop (after_comma behind_item) behind_item) next
+      → Found (ItemsWritten holds (suc most) least) s (joined i (behind (after_comma behind_item) next))
   more_found {next} e found =
       record {
-        text = itemText item.words ++ (ascii "," ++ (spaces gap ++ found.text));
+        text = item_text item.words ++ (ascii "," ++ (spaces gap ++ found.text));
         written =
-            subst (λ (v : List ℕ). ItemsWritten holds (suc most) least (itemText item.words ++ (ascii "," ++ (spaces gap ++ found.text))) (v ∷ next.values)) item.value_is
+            subst (λ (v : List ℕ). ItemsWritten holds (suc most) least (item_text item.words ++ (ascii "," ++ (spaces gap ++ found.text))) (v ∷ next.values)) item.value_is
             (more item.words gap rises_too (rw item.index_is found.written));
         text_is =
-            in_front_both (itemText item.words) (ascii "," ++ (spaces gap ++ found.text)) i.size (after_comma behindItem + next.size) item.text_is
-            (in_front_both (44 ∷ spaces gap) found.text (after_comma behindItem) next.size (byte_and_spaces behindItem 0 43 e) found.text_is);
+            in_front_both (item_text item.words) (ascii "," ++ (spaces gap ++ found.text)) i.size (after_comma behind_item + next.size) item.text_is
+            (in_front_both (44 ∷ spaces gap) found.text (after_comma behind_item) next.size (byte_and_spaces behind_item 0 43 e) found.text_is);
       }
 
-  ended_found : (next : Part) → (next.good ≡ true → Found (ItemsWritten holds most (suc i.index)) (drop (after_comma behindItem) behindItem) next) → (ended behindItem next).good ≡ true
-      → Found (ItemsWritten holds (suc most) least) s (joined i (ended behindItem next))
-  ended_found next on e = go (stands "}" 0 behindItem) (stands "," 0 behindItem) refl refl e
+  ended_found : (next : Part) → (next.good ≡ true → Found (ItemsWritten holds most (suc i.index)) (drop (after_comma behind_item) behind_item) next) → (ended behind_item next).good ≡ true
+      → Found (ItemsWritten holds (suc most) least) s (joined i (ended behind_item next))
+  ended_found next on e = go (stands "}" 0 behind_item) (stands "," 0 behind_item) refl refl e
     where
-      go : (brace comma : Bool) → stands "}" 0 behindItem ≡ brace → stands "," 0 behindItem ≡ comma
-          → (cond brace (record { good = true; values = []; size = 1 }) (cond comma (behind (after_comma behindItem) next) none)).good ≡ true
-          → Found (ItemsWritten holds (suc most) least) s (joined i (cond brace (record { good = true; values = []; size = 1 }) (cond comma (behind (after_comma behindItem) next) none)))
+      go : (brace comma : Bool) → stands "}" 0 behind_item ≡ brace → stands "," 0 behind_item ≡ comma
+          → (cond brace (record { good = true; values = []; size = 1 }) (cond comma (behind (after_comma behind_item) next) none)).good ≡ true
+          → Found (ItemsWritten holds (suc most) least) s (joined i (cond brace (record { good = true; values = []; size = 1 }) (cond comma (behind (after_comma behind_item) next) none)))
       go true comma f g h = last_found f
       go false true f g h = more_found g (on h)
       go false false f g h = clash h refl

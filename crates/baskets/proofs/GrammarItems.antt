@@ -15,7 +15,7 @@ use Rattle.text.proofs.Bools.{and_left, and_right}
 use Rattle.text.proofs.NumberLaws.{number_short}
 use Rattle.baskets.specs.declared.items.Holds.{Holds}
 use Rattle.baskets.specs.Items.{Item, in_front, digits_in, spaces_in, one_to_three, value_size, item_in, stands}
-use Rattle.baskets.specs.Grammar.{spaces, ItemWords, index_of, itemText}
+use Rattle.baskets.specs.Grammar.{spaces, ItemWords, index_of, item_text}
 use Rattle.baskets.proofs.FrontLaws.{front_counts, digits_count, digits_run, spaces_length, spaces_count, spaces_passed, index_begins, byte_and_spaces, value_begins, value_some, value_size_lem, value_read}
 
 -- an item that is written, in front of any rest
@@ -26,7 +26,7 @@ module _ {holds : Holds} (i : ItemWords holds) where
   count_fits : one_to_three count ≡ true
   count_fits = and_left (one_to_three count) (all_of Digit i.digits) i.is_index
 
-  item_length : length (itemText i) ≡ count + 1 + i.gap + length i.value
+  item_length : length (item_text i) ≡ count + 1 + i.gap + length i.value
   item_length =
       rw length-append (omega (arith, length-append (spaces i.gap) i.value, spaces_length i.gap))
 
@@ -37,10 +37,10 @@ module _ {holds : Holds} (i : ItemWords holds) where
     abbrev colon : List ℕ
     colon = 58 ∷ (spaces i.gap ++ (i.value ++ rest))
 
-    item_parts : itemText i ++ rest ≡ i.digits ++ colon
+    item_parts : item_text i ++ rest ≡ i.digits ++ colon
     item_parts = append_assoc i.digits _ rest ∙ ap (λ (t : List ℕ). i.digits ++ 58 ∷ t) (append_assoc (spaces i.gap) i.value rest)
 
-    pub item_begins : spaces_in (itemText i ++ rest) ≡ 0
+    pub item_begins : spaces_in (item_text i ++ rest) ≡ 0
     item_begins = rw item_parts (index_begins i.digits colon i.is_index)
 
     digits_read : digits_in (i.digits ++ colon) ≡ count
@@ -54,7 +54,7 @@ module _ {holds : Holds} (i : ItemWords holds) where
     up_to_value = sym (drop-drop i.gap (count + 1) (i.digits ++ colon)) ∙ rw (drop-append-add i.digits colon 1) (spaces_passed i.gap (i.value ++ rest))
 
     -- an item that is followed by no digit is read as far as it goes
-    pub item_accepted : digits_in rest ≡ 0 → item_in holds (itemText i ++ rest) ≡ record { good = true; index = index_of i; value = i.value; size = length (itemText i) }
+    pub item_accepted : digits_in rest ≡ 0 → item_in holds (item_text i ++ rest) ≡ record { good = true; index = index_of i; value = i.value; size = length (item_text i) }
     unfolding item_in
     item_accepted ends =
         rw (
@@ -77,53 +77,53 @@ pub record ItemFound (holds : Holds) (s : List ℕ) (read : Item) : Type 0 where
   pub words : ItemWords holds
   pub index_is : index_of words ≡ read.index
   pub value_is : words.value ≡ read.value
-  pub text_is : s ≡ itemText words ++ drop read.size s
+  pub text_is : s ≡ item_text words ++ drop read.size s
 
 -- an item that is read: its index, the spaces behind the colon, and its value
 module _ (holds : Holds) (s : List ℕ) (good : (item_in holds s).good ≡ true) where
-  abbrev indexSize : ℕ
-  indexSize = digits_in s
+  abbrev index_size : ℕ
+  index_size = digits_in s
 
-  abbrev gapSize : ℕ
-  gapSize = spaces_in (drop (indexSize + 1) s)
+  abbrev gap_size : ℕ
+  gap_size = spaces_in (drop (index_size + 1) s)
 
-  abbrev fromValue : List ℕ
-  fromValue = drop (indexSize + 1 + gapSize) s
+  abbrev from_value : List ℕ
+  from_value = drop (index_size + 1 + gap_size) s
 
   abbrev size : ℕ
-  size = value_size holds fromValue
+  size = value_size holds from_value
 
-  index_fits : one_to_three indexSize ≡ true
+  index_fits : one_to_three index_size ≡ true
   unfolding item_in
-  index_fits = and_left (one_to_three indexSize) (stands ":" indexSize s) (and_left (one_to_three indexSize && stands ":" indexSize s) (not (eqb size 0)) good)
+  index_fits = and_left (one_to_three index_size) (stands ":" index_size s) (and_left (one_to_three index_size && stands ":" index_size s) (not (eqb size 0)) good)
 
-  colon_stands : stands ":" indexSize s ≡ true
+  colon_stands : stands ":" index_size s ≡ true
   unfolding item_in
-  colon_stands = and_right (one_to_three indexSize) (stands ":" indexSize s) (and_left (one_to_three indexSize && stands ":" indexSize s) (not (eqb size 0)) good)
+  colon_stands = and_right (one_to_three index_size) (stands ":" index_size s) (and_left (one_to_three index_size && stands ":" index_size s) (not (eqb size 0)) good)
 
   some_value : not (eqb size 0) ≡ true
   unfolding item_in
-  some_value = and_right (one_to_three indexSize && stands ":" indexSize s) (not (eqb size 0)) good
+  some_value = and_right (one_to_three index_size && stands ":" index_size s) (not (eqb size 0)) good
 
   found_words : ItemWords holds
   found_words =
       record {
-        digits = take indexSize s;
-        gap = gapSize;
-        value = take size fromValue;
+        digits = take index_size s;
+        gap = gap_size;
+        value = take size from_value;
         is_index = digits_run s index_fits;
-        holds_value = value_read holds fromValue some_value;
+        holds_value = value_read holds from_value some_value;
       }
 
-  value_then : fromValue ≡ take size fromValue ++ drop (indexSize + 1 + gapSize + size) s
-  value_then = sym (take-append-drop size fromValue) ∙ rw (drop-drop size (indexSize + 1 + gapSize) s)
+  value_then : from_value ≡ take size from_value ++ drop (index_size + 1 + gap_size + size) s
+  value_then = sym (take-append-drop size from_value) ∙ rw (drop-drop size (index_size + 1 + gap_size) s)
 
-  found_text : s ≡ itemText found_words ++ drop (indexSize + 1 + gapSize + size) s
+  found_text : s ≡ item_text found_words ++ drop (index_size + 1 + gap_size + size) s
   unfolding found_words
   found_text =
-      let behind : drop indexSize s ≡ 58 ∷ ((spaces gapSize ++ take size fromValue) ++ drop (indexSize + 1 + gapSize + size) s) =
-      byte_and_spaces s indexSize 57 colon_stands ∙ ap (λ (t : List ℕ). 58 ∷ t) (ap (λ (t : List ℕ). spaces gapSize ++ t) value_then ∙ sym (append_assoc (spaces gapSize) _ _)) in
-      sym (take-append-drop indexSize s) ∙ ap (λ (t : List ℕ). take indexSize s ++ t) behind ∙ sym (append_assoc (take indexSize s) _ _)
+      let behind : drop index_size s ≡ 58 ∷ ((spaces gap_size ++ take size from_value) ++ drop (index_size + 1 + gap_size + size) s) =
+      byte_and_spaces s index_size 57 colon_stands ∙ ap (λ (t : List ℕ). 58 ∷ t) (ap (λ (t : List ℕ). spaces gap_size ++ t) value_then ∙ sym (append_assoc (spaces gap_size) _ _)) in
+      sym (take-append-drop index_size s) ∙ ap (λ (t : List ℕ). take index_size s ++ t) behind ∙ sym (append_assoc (take index_size s) _ _)
 
   pub item_only : ItemFound holds s (item_in holds s)
   unfolding item_in found_words

@@ -17,7 +17,7 @@ use Rattle.baskets.specs.declared.legs.Kind.{Kind}
 use Rattle.baskets.specs.declared.legs.Kind.TheVariants.{Swap, Other, Malformed}
 use Rattle.baskets.specs.Items.{Part, in_front, spaces_in, basket_in, stands, behind, none}
 use Rattle.baskets.specs.Legs.{leg_in, legs_in, is_all, past_spaces, two_legs}
-use Rattle.baskets.specs.Grammar.{spaces, sign_of, ItemsWritten, LegsWritten, one_leg, two-legs, one_basket}
+use Rattle.baskets.specs.Grammar.{spaces, sign_of, ItemsWritten, LegsWritten, one_leg, two_legs_of, one_basket}
 use Rattle.baskets.proofs.FrontLaws.{clash, in_front_both, spaces_length, spaces_count, spaces_passed, stands_first, byte_and_spaces}
 use Rattle.baskets.proofs.GrammarBaskets.{all_good, BasketFound, basket_accepted, basket_only}
 
@@ -101,7 +101,7 @@ module _ (plus : Bool) (gap : ℕ) (items items' : List ℕ) where
 pub legs_accepted : {holds : Holds} {kind : Kind} {s : List ℕ} {values : List (List ℕ)} → LegsWritten holds kind s values → legs_in kind holds s ≡ all_good s values
 unfolding legs_in
 legs_accepted (one_leg {text = items} plus w) = rw (whole_leg plus w, eq-eqb (length (leg_of plus items)) (length (leg_of plus items)) refl)
-legs_accepted (two-legs {text = items} {text' = items'} plus gap w w') = both_accepted plus gap items items' w w'
+legs_accepted (two_legs_of {text = items} {text' = items'} plus gap w w') = both_accepted plus gap items items' w w'
 legs_accepted (one_basket {text = items} w) = rw (whole_basket w, eq-eqb (suc (length items)) (suc (length items)) refl)
 
 -- a leg in front, with its sign
@@ -147,60 +147,60 @@ other_sign false false e = clash e refl
 
 module _ (holds : Holds) (s : List ℕ) where
   -- how long the first leg is, where the second begins, and the text from there
-  abbrev firstSize : ℕ
-  firstSize = (leg_in holds s).size
+  abbrev first_size : ℕ
+  first_size = (leg_in holds s).size
 
   abbrev place : ℕ
-  place = past_spaces firstSize s
+  place = past_spaces first_size s
 
-  abbrev behindFirst : List ℕ
-  behindFirst = drop place s
+  abbrev behind_first : List ℕ
+  behind_first = drop place s
 
   one_found : (leg_in holds s).good ≡ true → is_all s (leg_in holds s) ≡ true → LegsWritten holds Swap s (leg_in holds s).values
   one_found good all =
       let p = leg_only holds s good in
-      subst (λ (t : List ℕ). LegsWritten holds Swap t (leg_in holds s).values) (sym (all_of_it_lem (leg_of p.plus p.basket.items) firstSize p.basket.text_is all))
+      subst (λ (t : List ℕ). LegsWritten holds Swap t (leg_in holds s).values) (sym (all_of_it_lem (leg_of p.plus p.basket.items) first_size p.basket.text_is all))
       (one_leg p.plus p.basket.written)
 
-  module _ (p : LegFound holds s (leg_in holds s)) (q : LegFound holds behindFirst (leg_in holds behindFirst)) where
+  module _ (p : LegFound holds s (leg_in holds s)) (q : LegFound holds behind_first (leg_in holds behind_first)) where
     two_signs : not (eqb (get_or s 0 0) (get_or s place 0)) ≡ true → q.plus ≡ not p.plus
     two_signs e =
         let there : get_or s place 0 ≡ get_or (sign_of q.plus) 0 0 = sym (rw add-zero at (get_or-drop place s 0 0)) ∙ q.sign_is in
         other_sign p.plus q.plus (rw (p.sign_is, there) at e)
 
-    two_texts : stands ";" firstSize s ≡ true → eqb (place + (leg_in holds behindFirst).size) (length s) ≡ true
-        → s ≡ leg_of p.plus p.basket.items ++ (ascii ";" ++ (spaces (spaces_in (drop (firstSize + 1) s)) ++ leg_of q.plus q.basket.items))
+    two_texts : stands ";" first_size s ≡ true → eqb (place + (leg_in holds behind_first).size) (length s) ≡ true
+        → s ≡ leg_of p.plus p.basket.items ++ (ascii ";" ++ (spaces (spaces_in (drop (first_size + 1) s)) ++ leg_of q.plus q.basket.items))
     two_texts e all =
-        let k = (leg_in holds behindFirst).size in
-        let second : behindFirst ≡ leg_of q.plus q.basket.items =
+        let k = (leg_in holds behind_first).size in
+        let second : behind_first ≡ leg_of q.plus q.basket.items =
         q.basket.text_is ∙ rw (drop-drop k place s, eqb-true (place + k) (length s) all, drop-length s, append-nil (leg_of q.plus q.basket.items)) in
         p.basket.text_is
         ∙ ap (λ (t : List ℕ). leg_of p.plus p.basket.items ++ t)
-        (byte_and_spaces s firstSize 58 e ∙ ap (λ (t : List ℕ). 59 ∷ (spaces (spaces_in (drop (firstSize + 1) s)) ++ t)) second)
+        (byte_and_spaces s first_size 58 e ∙ ap (λ (t : List ℕ). 59 ∷ (spaces (spaces_in (drop (first_size + 1) s)) ++ t)) second)
 
-    two_found : stands ";" firstSize s ≡ true → not (eqb (get_or s 0 0) (get_or s place 0)) ≡ true → eqb (place + (leg_in holds behindFirst).size) (length s) ≡ true
-        → LegsWritten holds Swap s ((leg_in holds s).values ++ (leg_in holds behindFirst).values)
+    two_found : stands ";" first_size s ≡ true → not (eqb (get_or s 0 0) (get_or s place 0)) ≡ true → eqb (place + (leg_in holds behind_first).size) (length s) ≡ true
+        → LegsWritten holds Swap s ((leg_in holds s).values ++ (leg_in holds behind_first).values)
     two_found e signs all =
-        let text : s ≡ leg_of p.plus p.basket.items ++ (ascii ";" ++ (spaces (spaces_in (drop (firstSize + 1) s)) ++ leg_of (not p.plus) q.basket.items)) =
+        let text : s ≡ leg_of p.plus p.basket.items ++ (ascii ";" ++ (spaces (spaces_in (drop (first_size + 1) s)) ++ leg_of (not p.plus) q.basket.items)) =
         rw (two_signs signs) at (two_texts e all) in
-        subst (λ (t : List ℕ). LegsWritten holds Swap t ((leg_in holds s).values ++ (leg_in holds behindFirst).values)) (sym text)
-        (two-legs p.plus (spaces_in (drop (firstSize + 1) s)) p.basket.written q.basket.written)
+        subst (λ (t : List ℕ). LegsWritten holds Swap t ((leg_in holds s).values ++ (leg_in holds behind_first).values)) (sym text)
+        (two_legs_of p.plus (spaces_in (drop (first_size + 1) s)) p.basket.written q.basket.written)
 
   swap_only : (legs_in Swap holds s).good ≡ true → LegsWritten holds Swap s (legs_in Swap holds s).values
   unfolding legs_in
   swap_only good = by_test (is_all s (leg_in holds s)) (λ e. rw e (one_found (rw e at good) e)) (λ e. rw e (two (rw e at good)))
     where
-      two : (two_legs s (leg_in holds s) place (leg_in holds behindFirst)).good ≡ true → LegsWritten holds Swap s ((leg_in holds s).values ++ (leg_in holds behindFirst).values)
+      two : (two_legs s (leg_in holds s) place (leg_in holds behind_first)).good ≡ true → LegsWritten holds Swap s ((leg_in holds s).values ++ (leg_in holds behind_first).values)
       two g =
           let a : Bool = (leg_in holds s).good in
-          let b : Bool = stands ";" firstSize s in
-          let c : Bool = (leg_in holds behindFirst).good in
+          let b : Bool = stands ";" first_size s in
+          let c : Bool = (leg_in holds behind_first).good in
           let d : Bool = not (eqb (get_or s 0 0) (get_or s place 0)) in
-          let abcd = and_left (a && b && c && d) (is_all s (behind place (leg_in holds behindFirst))) g in
+          let abcd = and_left (a && b && c && d) (is_all s (behind place (leg_in holds behind_first))) g in
           let abc = and_left (a && b && c) d abcd in
           let ab = and_left (a && b) c abc in
-          two_found (leg_only holds s (and_left a b ab)) (leg_only holds behindFirst (and_right (a && b) c abc))
-          (and_right a b ab) (and_right (a && b && c) d abcd) (and_right (a && b && c && d) (is_all s (behind place (leg_in holds behindFirst))) g)
+          two_found (leg_only holds s (and_left a b ab)) (leg_only holds behind_first (and_right (a && b) c abc))
+          (and_right a b ab) (and_right (a && b && c) d abcd) (and_right (a && b && c && d) (is_all s (behind place (leg_in holds behind_first))) g)
 
   other_only : (legs_in Other holds s).good ≡ true → LegsWritten holds Other s (legs_in Other holds s).values
   unfolding legs_in
@@ -221,10 +221,10 @@ legs_only Malformed holds s good = clash good refl
 pub legs_begin : {holds : Holds} {kind : Kind} {s : List ℕ} {values : List (List ℕ)} → LegsWritten holds kind s values → spaces_in s ≡ 0
 unfolding in_front
 legs_begin (one_leg plus w) = leg_begins plus _
-legs_begin (two-legs {text = items} plus gap w w') = rw (append_assoc (sign_of plus) (ascii "{" ++ items) _) (leg_begins plus _)
+legs_begin (two_legs_of {text = items} plus gap w w') = rw (append_assoc (sign_of plus) (ascii "{" ++ items) _) (leg_begins plus _)
 legs_begin (one_basket w) = refl
 
 pub legs_some : {holds : Holds} {kind : Kind} {s : List ℕ} {values : List (List ℕ)} → LegsWritten holds kind s values → blank s ≡ false
 legs_some (one_leg plus w) = leg_some plus _
-legs_some (two-legs {text = items} plus gap w w') = rw (append_assoc (sign_of plus) (ascii "{" ++ items) _) (leg_some plus _)
+legs_some (two_legs_of {text = items} plus gap w w') = rw (append_assoc (sign_of plus) (ascii "{" ++ items) _) (leg_some plus _)
 legs_some (one_basket {text = items} w) = eqb-suc-zero (length items)

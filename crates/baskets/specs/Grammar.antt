@@ -34,16 +34,16 @@ module _ {holds : Holds} where
   abbrev pub index_of : ItemWords holds → ℕ
   index_of i = numeral 0 i.digits
 
-  abbrev pub itemText : ItemWords holds → List ℕ
-  itemText i = i.digits ++ (ascii ":" ++ (spaces i.gap ++ i.value))
+  abbrev pub item_text : ItemWords holds → List ℕ
+  item_text i = i.digits ++ (ascii ":" ++ (spaces i.gap ++ i.value))
 
 -- up to `most` items parted by commas, indexes rising in value from `least` on, and the closing brace
 pub data ItemsWritten (holds : Holds) : (most least : ℕ) → List ℕ → List (List ℕ) → Type 0 where
-  last : {most least : ℕ} (i : ItemWords holds) → least ≤ index_of i → ItemsWritten holds (suc most) least (itemText i ++ ascii "}") (i.value ∷ [])
+  last : {most least : ℕ} (i : ItemWords holds) → least ≤ index_of i → ItemsWritten holds (suc most) least (item_text i ++ ascii "}") (i.value ∷ [])
   more :
       {most least : ℕ} {text : List ℕ} {values : List (List ℕ)} (i : ItemWords holds) (gap : ℕ) → least ≤ index_of i
       → ItemsWritten holds most (suc (index_of i)) text values
-      → ItemsWritten holds (suc most) least (itemText i ++ (ascii "," ++ (spaces gap ++ text))) (i.value ∷ values)
+      → ItemsWritten holds (suc most) least (item_text i ++ (ascii "," ++ (spaces gap ++ text))) (i.value ∷ values)
 
 abbrev pub sign_of : Bool → List ℕ
 sign_of plus = cond plus (ascii "+") (ascii "-")
@@ -51,7 +51,7 @@ sign_of plus = cond plus (ascii "+") (ascii "-")
 -- SWAP: one leg, or two with different signs. OTHR: one basket without a sign. Each basket holds 1 to 16 items
 pub data LegsWritten (holds : Holds) : Kind → List ℕ → List (List ℕ) → Type 0 where
   one_leg : {text : List ℕ} {values : List (List ℕ)} (plus : Bool) → ItemsWritten holds 16 0 text values → LegsWritten holds Swap (sign_of plus ++ (ascii "{" ++ text)) values
-  two-legs :
+  two_legs_of :
       {text text' : List ℕ} {values values' : List (List ℕ)} (plus : Bool) (gap : ℕ) → ItemsWritten holds 16 0 text values
       → ItemsWritten holds 16 0 text' values'
       → LegsWritten holds Swap ((sign_of plus ++ (ascii "{" ++ text)) ++ (ascii ";" ++ (spaces gap ++ (sign_of (not plus) ++ (ascii "{" ++ text'))))) (values ++ values')

@@ -83,18 +83,18 @@ module _ (κs : Lfts 3) where
   abbrev pub NoteReturned : Type 0
   NoteReturned = AtExit note.ended κs
 
-  abbrev pub noteAfter : NoteArguments → After
-  noteAfter a = note_of a.0.now a.1.0.now (line_of a.1.1.0.now a.1.1.1.0)
+  abbrev pub note_after : NoteArguments → After
+  note_after a = note_of a.0.now a.1.0.now (line_of a.1.1.0.now a.1.1.1.0)
 
-  abbrev pub recordsAfter : NoteReturned → List Record
-  recordsAfter s = s.0.now
+  abbrev pub records_after : NoteReturned → List Record
+  records_after s = s.0.now
 
-  abbrev pub commonAfter : NoteReturned → Record
-  commonAfter s = s.1.0.now
+  abbrev pub common_after : NoteReturned → Record
+  common_after s = s.1.0.now
 
   module _ {M : Type 1} {𝓤 : Ura M} (𝓛 : Logic 𝓤) (mem : Memory → SProp 𝓤) (run : Routine → Fun 𝓤) (a : NoteArguments) where
     pub note_contract : (x : Noted) (s : NoteReturned)
-        → (note.clauses 𝓛 mem run κs a).ensures tt x s ≡ fact 𝓤 (Noting (noteAfter a) x (recordsAfter s) (commonAfter s))
+        → (note.clauses 𝓛 mem run κs a).ensures tt x s ≡ fact 𝓤 (Noting (note_after a) x (records_after s) (common_after s))
     note_contract x s = refl
 
     pub note_asks_nothing : (note.clauses 𝓛 mem run κs a).requires tt ≡ emp 𝓤

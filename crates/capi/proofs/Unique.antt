@@ -11,17 +11,17 @@ use contract.Lifetimes.{Lfts}
 use contract.Monad.{Fun, fact}
 use Rattle.text.proofs.Determined.{from_both, same_both}
 use Rattle.verdict.specs.declared.Verdict.{Verdict}
-use Rattle.judge.proofs.Contract.{registerAfter, findingsAfter}
+use Rattle.judge.proofs.Contract.{register_after, findings_after}
 use Rattle.summary.specs.declared.Noted.{Noted}
 use Rattle.summary.proofs.Unique.{one_result}
 use Rattle.capi.specs.contracts.boanhetri_note as note
 use Rattle.capi.proofs.boanhetri_convert.Reads as convert_reads
 use Rattle.capi.proofs.boanhetri_judge.Reads as reads
-use Rattle.capi.proofs.SameContract.{HostArguments, HostReturned, left, ConvertArguments, ConvertReturned, NoteArguments, NoteReturned, recordsAfter, commonAfter}
+use Rattle.capi.proofs.SameContract.{HostArguments, HostReturned, left, ConvertArguments, ConvertReturned, NoteArguments, NoteReturned, records_after, common_after}
 
 pub boanhetri_judge_determined :
     (κs : Lfts 8) (a : HostArguments κs) (x y : Verdict) (s t : HostReturned κs) → reads.Post κs a x s → reads.Post κs a y t
-    → (x ≡ y) × (registerAfter κs (left κs s) ≡ registerAfter κs (left κs t)) × (findingsAfter κs (left κs s) ≡ findingsAfter κs (left κs t))
+    → (x ≡ y) × (register_after κs (left κs s) ≡ register_after κs (left κs t)) × (findings_after κs (left κs s) ≡ findings_after κs (left κs t))
 boanhetri_judge_determined κs a x y s t p q = (same_both p.says q.says, same_both p.keeps q.keeps, same_both p.lists q.lists)
 
 pub boanhetri_convert_determined :
@@ -34,5 +34,5 @@ pub boanhetri_note_determined :
     (M : Type 1) (𝓤 : Ura M) (𝓛 : Logic 𝓤) (mem : Memory → SProp 𝓤) (run : Routine → Fun 𝓤) (κs : Lfts 3) (a : NoteArguments κs)
     (x y : Noted) (s t : NoteReturned κs)
     → ent 𝓤 (sep 𝓤 ((note.clauses 𝓛 mem run κs a).ensures tt x s) ((note.clauses 𝓛 mem run κs a).ensures tt y t))
-    (fact 𝓤 ((x ≡ y) × (recordsAfter κs s ≡ recordsAfter κs t) × (commonAfter κs s ≡ commonAfter κs t)))
+    (fact 𝓤 ((x ≡ y) × (records_after κs s ≡ records_after κs t) × (common_after κs s ≡ common_after κs t)))
 boanhetri_note_determined M 𝓤 𝓛 mem run κs a x y s t = from_both 𝓤 _ _ _ one_result

@@ -84,31 +84,31 @@ module _ (b : ℕ) (s whole : List ℕ) (number : ℕ) (register : List ℕ) (ta
   abbrev next : List ℕ
   next = left number (bare (take room whole)) register
 
-  abbrev next-table : Table
-  next-table = entered number (bare (take room whole)) register table
+  abbrev next_table : Table
+  next_table = entered number (bare (take room whole)) register table
 
   abbrev by_byte : Bool → List ℕ
   by_byte t = (cond t here [] ++ writes (cond t (ended now) (more now b)) s) ++ last_answer (after (cond t (ended now) (more now b)) s)
 
-  abbrev lines-by : Bool → List ℕ
-  lines-by t = behind number register (cond t (bare whole ∷ lines_from [] s) (lines_from (whole ++ (b ∷ [])) s))
+  abbrev lines_by : Bool → List ℕ
+  lines_by t = behind number register (cond t (bare whole ∷ lines_from [] s) (lines_from (whole ++ (b ∷ [])) s))
 
-  line_ends : 1 ≤ number → number < 18446744073709551615 → total (progress [] (number + 1) next next-table) s ≡ behind (number + 1) next (lines_from [] s)
-      → by_byte true ≡ lines-by true
+  line_ends : 1 ≤ number → number < 18446744073709551615 → total (progress [] (number + 1) next next_table) s ≡ behind (number + 1) next (lines_from [] s)
+      → by_byte true ≡ lines_by true
   line_ends h k e =
       let up : raised number ≡ number + 1 = omega arith in
       let later : leb (number + 1) 1 ≡ false = lt-leb (number + 1) 1 (omega arith) in
       append_assoc here (writes (ended now) s) (last_answer (after (ended now) s))
-      ∙ ap (λ (n : ℕ). here ++ total (progress [] n next next-table) s) up
+      ∙ ap (λ (n : ℕ). here ++ total (progress [] n next next_table) s) up
       ∙ ap (λ (l : List ℕ). here ++ l) e
       ∙ ap (λ (x : Bool). here ++ cond x (answers 2 next (drop 1 (lines_from [] s))) (answers (number + 1) next (lines_from [] s))) later
       ∙ one_line number (bare (take room whole)) (bare whole) register (lines_from [] s) h (kept_ended whole register).outcome_is
 
   line_goes_on : total (progress (take room (whole ++ (b ∷ []))) number register table) s ≡ behind number register (lines_from (whole ++ (b ∷ [])) s)
-      → by_byte false ≡ lines-by false
+      → by_byte false ≡ lines_by false
   line_goes_on e = ap (λ (l : List ℕ). total (progress l number register table) s) (take_again room whole (b ∷ [])) ∙ e
 
-  by_cases : (t : Bool) → (t ≡ true → by_byte true ≡ lines-by true) → (t ≡ false → by_byte false ≡ lines-by false) → by_byte t ≡ lines-by t
+  by_cases : (t : Bool) → (t ≡ true → by_byte true ≡ lines_by true) → (t ≡ false → by_byte false ≡ lines_by false) → by_byte t ≡ lines_by t
   by_cases true f g = f refl
   by_cases false f g = g refl
 
@@ -121,7 +121,7 @@ all_written (b ∷ s) whole number register table h k =
     by_cases b s whole number register table (eqb b 10)
     (λ t.
     line_ends b s whole number register table h (omega arith)
-    (all_written s [] (number + 1) (next b s whole number register table) (next-table b s whole number register table) (omega arith) (omega arith)))
+    (all_written s [] (number + 1) (next b s whole number register table) (next_table b s whole number register table) (omega arith) (omega arith)))
     (λ t. line_goes_on b s whole number register table (all_written s (whole ++ (b ∷ [])) number register table h (omega arith)))
 
 -- the whole input, from the start: lines are counted in 64 bits, so it is shorter than that

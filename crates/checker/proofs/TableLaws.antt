@@ -53,14 +53,14 @@ module _ (b : ℕ) (s whole : List ℕ) (number : ℕ) (register : List ℕ) (ta
   abbrev next : Progress
   next = ended now
 
-  abbrev table-by : Bool → Table
-  table-by t = last_table (after (cond t (ended now) (more now b)) s)
+  abbrev table_by : Bool → Table
+  table_by t = last_table (after (cond t (ended now) (more now b)) s)
 
-  abbrev lines-by : Bool → Table
-  lines-by t = behind number register table (cond t (bare whole ∷ lines_from [] s) (lines_from (whole ++ (b ∷ [])) s))
+  abbrev lines_by : Bool → Table
+  lines_by t = behind number register table (cond t (bare whole ∷ lines_from [] s) (lines_from (whole ++ (b ∷ [])) s))
 
   line_ends : 1 ≤ number → last_table (after next s) ≡ behind (raised number) next.register next.table (lines_from [] s)
-      → table-by true ≡ lines-by true
+      → table_by true ≡ lines_by true
   line_ends h e =
       let later : leb (raised number) 1 ≡ false = lt-leb (raised number) 1 (omega arith) in
       e
@@ -71,10 +71,10 @@ module _ (b : ℕ) (s whole : List ℕ) (number : ℕ) (register : List ℕ) (ta
 
   line_goes_on : last_table (after (progress (take room (whole ++ (b ∷ []))) number register table) s)
       ≡ behind number register table (lines_from (whole ++ (b ∷ [])) s)
-      → table-by false ≡ lines-by false
+      → table_by false ≡ lines_by false
   line_goes_on e = ap (λ (l : List ℕ). last_table (after (progress l number register table) s)) (take_again room whole (b ∷ [])) ∙ e
 
-  by_cases : (t : Bool) → (t ≡ true → table-by true ≡ lines-by true) → (t ≡ false → table-by false ≡ lines-by false) → table-by t ≡ lines-by t
+  by_cases : (t : Bool) → (t ≡ true → table_by true ≡ lines_by true) → (t ≡ false → table_by false ≡ lines_by false) → table_by t ≡ lines_by t
   by_cases true f g = f refl
   by_cases false f g = g refl
 

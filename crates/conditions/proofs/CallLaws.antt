@@ -23,7 +23,7 @@ use Rattle.register.specs.declared.rows.Standing.TheVariants.{Absent, Live, Canc
 use Rattle.register.proofs.Words.{same_refl}
 use Rattle.register.proofs.PairLaws.{Shaped, pair_length}
 use Rattle.register.proofs.RowLaws.{standing_found}
-use Rattle.register.proofs.PutLaws.{put_version, put_framed, put-rows, cancelled_version, cancelled_put}
+use Rattle.register.proofs.PutLaws.{put_version, put_framed, put_rows, cancelled_version, cancelled_put}
 use Rattle.register.proofs.TableLaws.{look_put}
 use Rattle.facts.specs.Call.{Call}
 use Rattle.facts.specs.Words.{is_live, is_absent, is_cancelled}
@@ -152,7 +152,7 @@ module _ (c : Call) (s : Sound c) where
       let pair : List ℕ = pair_of c.line in
       let row : Found = first_row c.register pair in
       let rows : rows_of (put c.register row pair value) ≡ put_row (rows_of c.register) pair value =
-      put-rows c.register pair value f (pair_length (cell c.line 4) (cell c.line 2)) (value_length (day_width c.register) c.line c.day) no_row_room
+      put_rows c.register pair value f (pair_length (cell c.line 4) (cell c.line 2)) (value_length (day_width c.register) c.line c.day) no_row_room
       in
       ap (λ r. standing r pair) written_is
       ∙ rw (put_framed c.register row pair value, f, rows, look_put (rows_of c.register) pair value pair, same_refl pair)

@@ -25,7 +25,7 @@ use Rattle.judge.proofs.Firsts.{none_holds}
 use Rattle.judge.proofs.FlagLaws.{flag_count, few_found}
 use Rattle.conditions.specs.Condition1.{reached}
 use Rattle.conditions.specs.Condition2.{listed, NotRefused, Condition2}
-use Rattle.conditions.proofs.FoundLaws.{rule_once, form_once, none_other, nothing-found, says_found, lists_found, count_found, listed_found}
+use Rattle.conditions.proofs.FoundLaws.{rule_once, form_once, none_other, nothing_found, says_found, lists_found, count_found, listed_found}
 use Rattle.conditions.proofs.CallLaws.{Way, refused, stuck, heard, way, sound, stands_after}
 
 module _ (call : Call) {before findings left : List ℕ} {verdict : Verdict} (j : Judged (outcome call (length before)) before verdict findings left) where
@@ -103,19 +103,19 @@ module _ (call : Call) {before findings left : List ℕ} {verdict : Verdict} (j 
   by_way (refused m h g e o) =
       record {
         not_refused = λ z. absurd (h (sym (answer_is m o) ∙ z));
-        without-findings = λ r no-rule no-form. absurd (true≢false (sym r ∙ e));
+        without_findings = λ r no-rule no-form. absurd (true≢false (sym r ∙ e));
       }
   by_way (stuck e t o) =
       record {
         not_refused = λ z. absurd (let w : ◌≡◌ {A = ℕ} 11 0 = sym (answer_is 11 o) ∙ z in omega arith);
-        without-findings = λ r no-rule no-form. inr (answer_is 11 o);
+        without_findings = λ r no-rule no-form. inr (answer_is 11 o);
       }
   by_way (heard e t o) =
       record {
         not_refused = λ z. not_refused e t o;
-        without-findings = λ r no-rule no-form.
+        without_findings = λ r no-rule no-form.
             let answer : verdict.answer ≡ 0 = ap (λ (v : Verdict). v.answer) (says_found call j o) in
-            let count : verdict.count ≡ 0 = count_found call j o ∙ nothing-found call no-rule no-form in
+            let count : verdict.count ≡ 0 = count_found call j o ∙ nothing_found call no-rule no-form in
             inl (rw (answer, count));
       }
 

@@ -19,7 +19,7 @@ use Rattle.facts.specs.Rules.{Rule, rules, polish_rules, all_rules, given, flags
 use Rattle.rules.proofs.InOrder.{rules_in_order, polish_in_order}
 use Rattle.verdict.specs.declared.Verdict.{Verdict}
 use Rattle.verdict.specs.Codes.{rule_codes, form_codes, polish_codes, codes, rule_count, code_count}
-use Rattle.verdict.specs.Verdict.{bit, pick, codes_found, verdict_of}
+use Rattle.verdict.specs.Verdict.{bit, codes_found, verdict_of}
 use Rattle.verdict.specs.Findings.{over}
 use Rattle.verdict.specs.Counted.{flags_set, times}
 use Rattle.verdict.proofs.ListLaws.{length_pick, set_append}
@@ -75,6 +75,7 @@ among_counted k (suc n) f h l =
     (λ t. let past : suc k ≤ f = omega (arith, leb-false f k t) in there (among_counted (suc k) n f past (omega arith)))
 
 counted_among : (k n f : ℕ) → Among f (count_from k n) → (k ≤ f) × (f < k + n)
+counted_among k zero f x = elim x [ ]
 counted_among k (suc n) f (here e) = (omega arith, omega arith)
 counted_among k (suc n) f (there m) = let (least, most) = counted_among (suc k) n f m in (omega arith, omega arith)
 
@@ -149,11 +150,11 @@ module _ (c : Call) where
       (omega (arith, times_append x rule_codes polish_codes, times_append x rule_codes (form_codes ++ polish_codes), times_append x form_codes polish_codes))
 
   -- nothing is found where no rule is violated and no cell malformed, and the other way round
-  pub nothing-found :
+  pub nothing_found :
       ((r : Rule) → Among r all_rules → given c r ≡ false) → ((f : ℕ) → 1 ≤ f → f ≤ 65 → malformed c f ≡ false)
       → length (codes_found (all_flags c)) ≡ 0
   unfolding all_flags flags form_findings polish_flags
-  nothing-found no-rule no-form =
+  nothing_found no-rule no-form =
       let of-rules : flags_set (flags c ++ polish_flags c) ≡ 0 = none_set (given c) all_rules no-rule in
       let of-forms : flags_set (form_findings c.line) ≡ 0 =
       none_set (malformed c) (count_from 1 65) (λ f m. let (least, most) = counted_among 1 65 f m in no-form f least (omega arith))

@@ -16,8 +16,8 @@ use Rattle.register.specs.Conversion.{in_version2, Converted}
 use Rattle.register.specs.declared.rows.Found.TheVariants.{Nowhere}
 use Rattle.register.proofs.PairLaws.{Shaped, pair_length}
 use Rattle.register.proofs.RowLaws.{rows_counted}
-use Rattle.register.proofs.PutLaws.{put-rows, put_framed, put_day, put_capacity}
-use Rattle.register.proofs.ConversionLaws.{conversion-is, first_undated, undated_rows, converted_framed, converted_rows}
+use Rattle.register.proofs.PutLaws.{put_rows, put_framed, put_day, put_capacity}
+use Rattle.register.proofs.ConversionLaws.{conversion_is, first_undated, undated_rows, converted_framed, converted_rows}
 use Rattle.verdict.specs.Verdict.{bit}
 use Rattle.conditions.specs.Condition2.{accepted}
 use Rattle.conditions.specs.Condition3.{Answered, Event, Line, Conversion, Pair, pair_in, ever, last_accepted, last_day, pairs_accepted, bytes_of}
@@ -86,7 +86,7 @@ module _ {c : ℕ} {history : List Event} {register : List ℕ} (k : Kept c hist
           framed_one = put_framed register (first_row register pair) pair (value_for n a.line a.day) ∙ k.framed_one;
           room = put_capacity register (first_row register pair) pair (value_for n a.line a.day) ∙ k.room;
           rows =
-              put-rows register pair (value_for n a.line a.day) k.framed_one (pair_length (cell a.line 4) (cell a.line 2)) (value_length n a.line a.day) left
+              put_rows register pair (value_for n a.line a.day) k.framed_one (pair_length (cell a.line 4) (cell a.line 2)) (value_length n a.line a.day) left
               ∙ rw (k.rows, e, put_day register (first_row register pair) pair (value_for n a.line a.day));
           fit = more (λ t. fits) k.fit;
         }
@@ -108,5 +108,5 @@ module _ {c : ℕ} {history : List Event} {source : List ℕ} (k : Kept c histor
 
   pub kept_converted : {left : List ℕ} → Converted source target 0 left → Kept (capacity left) (Conversion ∷ history) left
   kept_converted {left} done =
-      let (whole, one, room, is) = conversion-is source target (sym done.says) in
+      let (whole, one, room, is) = conversion_is source target (sym done.says) in
       subst (λ (x : List ℕ). Kept (capacity x) (Conversion ∷ history) x) (sym (done.leaves ∙ is)) (kept_turned whole one room)

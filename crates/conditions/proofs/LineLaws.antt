@@ -77,10 +77,10 @@ module _ (line : List ℕ) (known : Known (status_of (cell line 1))) where
       let both : (leb 1 (length s) && leb (length s) 52) ≡ true = and_left (leb 1 (length s) && leb (length s) 52) (all_of CapitalDigit s) h in
       (leb-true _ _ (and_left (leb 1 (length s)) (leb (length s) 52) both), leb-true _ _ (and_right (leb 1 (length s)) (leb (length s) 52) both))
 
-  pub pair-shaped :
+  pub pair_shaped :
       form_finding (status_of (cell line 1)) (cell line 47) 4 (cell line 4) ≡ false → form_finding (status_of (cell line 1)) (cell line 47) 2 (cell line 2) ≡ false
       → Shaped (cell line 4) (cell line 2)
-  pair-shaped e f =
+  pair_shaped e f =
       let (least, most) = reference_length f in
       record { entity_length = lei_length (cell line 4) (entity_shaped e); some = least; most = most }
 
@@ -94,7 +94,7 @@ unfolding good_cells form_findings
 good_2 line = refl
 
 pub good_shaped : (line : List ℕ) → Known (status_of (cell line 1)) → good line 4 ≡ true → good line 2 ≡ true → Shaped (cell line 4) (cell line 2)
-good_shaped line known e f = pair-shaped line known (not-true _ (sym (good_4 line) ∙ e)) (not-true _ (sym (good_2 line) ∙ f))
+good_shaped line known e f = pair_shaped line known (not-true _ (sym (good_4 line) ∙ e)) (not-true _ (sym (good_2 line) ∙ f))
 
 -- a line without 1001 is NEW or CXL
 pub status_found : (status : Status) (underlying s : List ℕ) → form_finding status underlying 1 s ≡ false → Known status

@@ -109,42 +109,42 @@ module _ (n : ℕ) (a : Answered) (rows : List Row) (last : Last) (key pair : Li
   ever_kind : ever kind ≡ true
   ever_kind = by_test (is_new a.line) (λ t. rw t) (λ t. rw t)
 
-  look-line :
+  look_line :
       (b m : Bool) → (b ≡ true → same pair key ≡ m) → stands_as (look rows pair) ≡ state_for last
       → stands_as (look (cond b (put_row rows key value) rows) pair) ≡ state_for (cond (b && m) kind last)
-  look-line true true h e = ap stands_as (look_put rows key value pair) ∙ rw (h refl) stands_kind
-  look-line true false h e = ap stands_as (look_put rows key value pair) ∙ rw (h refl) e
-  look-line false m h e = e
+  look_line true true h e = ap stands_as (look_put rows key value pair) ∙ rw (h refl) stands_kind
+  look_line true false h e = ap stands_as (look_put rows key value pair) ∙ rw (h refl) e
+  look_line false m h e = e
 
-  holds-line :
+  holds_line :
       (b m : Bool) → (b ≡ true → same pair key ≡ m) → holds rows pair ≡ ever last
       → holds (cond b (put_row rows key value) rows) pair ≡ ever (cond (b && m) kind last)
-  holds-line true true h e = holds_put rows key value pair ∙ rw (h refl) (sym ever_kind)
-  holds-line true false h e = holds_put rows key value pair ∙ rw (h refl) e
-  holds-line false m h e = e
+  holds_line true true h e = holds_put rows key value pair ∙ rw (h refl) (sym ever_kind)
+  holds_line true false h e = holds_put rows key value pair ∙ rw (h refl) e
+  holds_line false m h e = e
 
-  count-line :
+  count_line :
       (b m : Bool) → (b ≡ true → same pair key ≡ m) → holds rows pair ≡ ever last → rows_with rows pair ≡ bit (ever last)
       → rows_with (cond b (put_row rows key value) rows) pair ≡ bit (ever (cond (b && m) kind last))
-  count-line true true h e k =
+  count_line true true h e k =
       let there : holds rows key ≡ ever last = ap (holds rows) (same_true pair key (h refl)) ∙ e in
       count_put rows key value pair ∙ rw (h refl, there, k, ever_kind) (one_more (ever last))
     where
       one_more : (t : Bool) → cond (not t) 1 0 + bit t ≡ 1
       one_more true = refl
       one_more false = refl
-  count-line true false h e k = count_put rows key value pair ∙ rw (h refl) (omega (arith, k))
-  count-line false m h e k = k
+  count_line true false h e k = count_put rows key value pair ∙ rw (h refl) (omega (arith, k))
+  count_line false m h e k = k
 
-  length-line :
+  length_line :
       (b : Bool) (k : ℕ) → (b ≡ true → holds rows key ≡ ever last) → length rows ≡ k
       → length (cond b (put_row rows key value) rows) ≡ bit (b && not (ever last)) + k
-  length-line true k h e = length_put rows key value ∙ rw (h refl, e) (other (ever last))
+  length_line true k h e = length_put rows key value ∙ rw (h refl, e) (other (ever last))
     where
       other : (t : Bool) → cond t 0 1 + k ≡ bit (not t) + k
       other true = refl
       other false = refl
-  length-line false k h e = omega (arith, e)
+  length_line false k h e = omega (arith, e)
 
 -- the day that is read of four bytes behind a state
 abbrev pub day_in : List ℕ → ℕ
@@ -170,7 +170,7 @@ module _ (p : Pair) (s : Shaped p.entity p.reference) where
   unfolding rows_for look last_accepted
   look_last n [] none = refl
   look_last n (Line a ∷ h) (more g gs) =
-      look-line n a (rows_for n h) (last_accepted h p) (bytes_of (pair_in a.line)) (bytes_of p) (accepted a.verdict) (same_pair p (pair_in a.line)) (own a g)
+      look_line n a (rows_for n h) (last_accepted h p) (bytes_of (pair_in a.line)) (bytes_of p) (accepted a.verdict) (same_pair p (pair_in a.line)) (own a g)
       (look_last n h gs)
   look_last n (Conversion ∷ h) (turned gs) =
       ap stands_as (look_undated (rows_for 0 h) (bytes_of p)) ∙ stands_undated (look (rows_for 0 h) (bytes_of p)) ∙ look_last 0 h gs
@@ -179,7 +179,7 @@ module _ (p : Pair) (s : Shaped p.entity p.reference) where
   unfolding rows_for holds last_accepted
   holds_last n [] none = refl
   holds_last n (Line a ∷ h) (more g gs) =
-      holds-line n a (rows_for n h) (last_accepted h p) (bytes_of (pair_in a.line)) (bytes_of p) (accepted a.verdict) (same_pair p (pair_in a.line)) (own a g)
+      holds_line n a (rows_for n h) (last_accepted h p) (bytes_of (pair_in a.line)) (bytes_of p) (accepted a.verdict) (same_pair p (pair_in a.line)) (own a g)
       (holds_last n h gs)
   holds_last n (Conversion ∷ h) (turned gs) = holds_undated (rows_for 0 h) (bytes_of p) ∙ holds_last 0 h gs
 
@@ -187,7 +187,7 @@ module _ (p : Pair) (s : Shaped p.entity p.reference) where
   unfolding rows_for rows_with last_accepted
   count_last n [] none = refl
   count_last n (Line a ∷ h) (more g gs) =
-      count-line n a (rows_for n h) (last_accepted h p) (bytes_of (pair_in a.line)) (bytes_of p) (accepted a.verdict) (same_pair p (pair_in a.line)) (own a g)
+      count_line n a (rows_for n h) (last_accepted h p) (bytes_of (pair_in a.line)) (bytes_of p) (accepted a.verdict) (same_pair p (pair_in a.line)) (own a g)
       (holds_last n h gs) (count_last n h gs)
   count_last n (Conversion ∷ h) (turned gs) = count_undated (rows_for 0 h) (bytes_of p) ∙ count_last 0 h gs
 
@@ -204,7 +204,7 @@ pub length_last : (n : ℕ) (history : List Event) → AllFit history → length
 unfolding rows_for pairs_accepted
 length_last n [] none = refl
 length_last n (Line a ∷ h) (more g gs) =
-    length-line n a (rows_for n h) (last_accepted h (pair_in a.line)) (bytes_of (pair_in a.line)) [] (accepted a.verdict) (pairs_accepted h)
+    length_line n a (rows_for n h) (last_accepted h (pair_in a.line)) (bytes_of (pair_in a.line)) [] (accepted a.verdict) (pairs_accepted h)
     (λ t. holds_last (pair_in a.line) (g t).shape n h gs) (length_last n h gs)
 length_last n (Conversion ∷ h) (turned gs) = length_undated (rows_for 0 h) ∙ length_last 0 h gs
 

@@ -53,6 +53,6 @@ pub record NotRefused (call : Call) (before : List ℕ) (verdict : Verdict) (fin
 pub record Condition2 (call : Call) (before : List ℕ) (verdict : Verdict) (findings left : List ℕ) : Type 0 where
   pub not_refused : verdict.answer ≡ 0 → NotRefused call before verdict findings left
   -- a line that 1 to 10 do not refuse, that violates no rule and has no malformed cell
-  pub without-findings :
+  pub without_findings :
       reached call (length before) ≡ true → ((r : Rule) → Among r all_rules → given call r ≡ false)
       → ((f : ℕ) → 1 ≤ f → f ≤ 65 → malformed call f ≡ false) → (accepted verdict ≡ true) ⊎ (verdict.answer ≡ 11)

@@ -10,7 +10,7 @@ use Rattle.verdict.specs.declared.Verdict.{Verdict}
 use Rattle.verdict.specs.Findings.{over}
 use Rattle.judge.specs.Outcome.{outcome}
 use Rattle.judge.proofs.judge.Reads as reads
-use Rattle.judge.proofs.Contract.{Arguments, Returned, call_of, findingsAfter}
+use Rattle.judge.proofs.Contract.{Arguments, Returned, call_of, findings_after}
 use Rattle.conditions.specs.Condition2.{listed}
 use Rattle.summary.specs.declared.Record.{Record}
 use Rattle.summary.specs.declared.Noted.{Noted}
@@ -49,5 +49,5 @@ module _ {start : List Record} {history : List Handed} {records : List Record} {
   pub steps :
       (κs : Lfts 8) (a : Arguments κs) (x : Verdict) (s : Returned κs) {noted : Noted} {after : List Record} {then : Record} → reads.Post κs a x s
       → Noting (note_of records common (line_of (call_of κs a).line x)) noted after then
-      → Run start (record { line = (call_of κs a).line; verdict = x; findings = listed x (findingsAfter κs s) } ∷ history) after then
+      → Run start (record { line = (call_of κs a).line; verdict = x; findings = listed x (findings_after κs s) } ∷ history) after then
   steps κs a x s post n = next (call_of κs a) run post n

@@ -37,19 +37,19 @@ module _ (κs : Lfts 8) where
           polish = a.1.1.1.1.1.1.1.1.1.0;
         }
 
-    abbrev pub findingsBefore : List ℕ
-    findingsBefore = a.1.1.1.1.1.1.1.1.1.1.0.now
+    abbrev pub findings_before : List ℕ
+    findings_before = a.1.1.1.1.1.1.1.1.1.1.0.now
 
-  abbrev pub registerAfter : Returned → List ℕ
-  registerAfter s = s.1.1.1.1.1.1.0.now
+  abbrev pub register_after : Returned → List ℕ
+  register_after s = s.1.1.1.1.1.1.0.now
 
-  abbrev pub findingsAfter : Returned → List ℕ
-  findingsAfter s = s.1.1.1.1.1.1.1.1.1.1.0.now
+  abbrev pub findings_after : Returned → List ℕ
+  findings_after s = s.1.1.1.1.1.1.1.1.1.1.0.now
 
   -- the outcome of the call, and nothing but it
   abbrev pub Promised : Arguments → Verdict → Returned → Type 0
   Promised a x s =
-      Judged (outcome (call_of a) (length (findingsBefore a))) (findingsBefore a) x (findingsAfter s) (registerAfter s)
+      Judged (outcome (call_of a) (length (findings_before a))) (findings_before a) x (findings_after s) (register_after s)
 
   -- what the code has to show, and what a caller learns
   pub judge_contract : (a : Arguments) (x : Verdict) (s : Returned) → reads.Post κs a x s ≡ Promised a x s

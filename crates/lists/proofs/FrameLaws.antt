@@ -50,12 +50,12 @@ module _ (mark : Mark) (list : List ℕ) where
   unfolding framed_as
   framed_short h = rw (lt-leb 9 (length list) h)
 
-  pub framed-by :
+  pub framed_by :
       Bytes list → 9 ≤ length list → {first given fifth count width : ℕ} → first ≡ little_endian 4 list → given ≡ little_endian 4 (letters_of mark ++ (1 ∷ []))
       → fifth ≡ get_or list 4 0 → count ≡ count_of list → width ≡ row_width mark
       → (eqb first given && eqb fifth 0 && eqb (length list) (9 + count * width)) ≡ framed mark list
   unfolding framed_as
-  framed-by bytes h e f g counts wide =
+  framed_by bytes h e f g counts wide =
       rw (e, f, g, counts, wide, le-leb 9 (length list) h) (ap (λ t. t && eqb (length list) (9 + count_of list * row_width mark)) (letters mark list bytes (omega arith)))
 
 -- a 32-bit count of rows

@@ -158,11 +158,11 @@ module _ (source target : List ℕ) where
   unfolding converted
   conversion_refused h = rw (ne_eqb (conversion_answer source target) 0 h)
 
-  pub conversion-is :
+  pub conversion_is :
       conversion_answer source target ≡ 0
       → (framed source ≡ true) × (version source ≡ 1) × (place 4 (used source) ≤ length target) × (converted source target ≡ sets target 0 (in_version2 source))
   unfolding conversion_answer
-  conversion-is h =
+  conversion_is h =
       by_test
       (framed source && eqb (version source) 1)
       (λ t.
@@ -184,19 +184,19 @@ module _ (source target : List ℕ) where
   -- the rows stand within the source, and have room in the target
   pub conversion_room : {count : ℕ} → conversion_answer source target ≡ 0 → count ≡ used source → (place 0 count ≤ length source) × (place 4 count ≤ length target)
   conversion_room h counts =
-      let (whole, one, room, done) = conversion-is h in
+      let (whole, one, room, done) = conversion_is h in
       (omega (arith, counts, (framed_is source whole).head, rw length-drop at (first_rows source whole one)), omega (arith, counts, room))
 
   pub conversion_none : {answer : ℕ} → answer ≡ conversion_answer source target → (answer ≡ 0 → ⊥) → Converted source target answer target
   conversion_none says refused = record { says = says; leaves = sym (conversion_refused (λ h. refused (says ∙ h))) }
 
   -- the head, then the rows
-  pub conversion-done :
+  pub conversion_done :
       {answer count : ℕ} {head left : List ℕ} → answer ≡ conversion_answer source target → answer ≡ 0 → count ≡ used source
       → head ≡ sets target 0 (ascii "TRN" ++ (little_bytes 2 2 ++ little_bytes 4 count)) → left ≡ sets head 9 (undated count (drop 9 source))
       → Converted source target answer left
   unfolding in_version2
-  conversion-done {answer} {count} {head} {left} says accepted counts first second =
+  conversion_done {answer} {count} {head} {left} says accepted counts first second =
       let front : List ℕ = ascii "TRN" ++ (little_bytes 2 2 ++ little_bytes 4 count) in
       let rows : List ℕ = undated count (drop 9 source) in
       record {

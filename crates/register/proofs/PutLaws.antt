@@ -196,11 +196,11 @@ module _ (register : List ℕ) where
       (λ t. rw t)
 
   module _ (pair value : List ℕ) (f : Framed register) (k : length pair ≡ 73) (h : length value ≡ 1 + n) where
-    put-found :
+    put_found :
         (found : Found) → own_from 0 (rows_of register) pair ≡ found → (found ≡ Nowhere → full register ≡ false)
         → rows_in n (used (put register found pair value)) (drop 9 (put register found pair value)) ≡ put_row (rows_of register) pair value
     unfolding put restated appended is_used
-    put-found Nowhere e room =
+    put_found Nowhere e room =
         let left : full register ≡ false = room refl in
         let bytes : List ℕ = sets register (place n (used register)) (pair ++ value) in
         let fits : suc (used register) * width n ≤ length (drop 9 register) =
@@ -212,7 +212,7 @@ module _ (register : List ℕ) where
         (rows_in n (suc (used register)))
         (drop_sets_past 9 bytes 5 (little_bytes 4 (used register + 1)) (lit≤ tt) ∙ drop_sets_add 9 register (used register * width n) (pair ++ value))
         ∙ append_rows n (used register) 0 (drop 9 register) pair value k h fits e)
-    put-found (At j) e room =
+    put_found (At j) e room =
         let (i, number, at) = first_at 0 j (rows_of register) pair e in
         let z : i ≡ j = omega arith in
         let at_j : FirstAt pair (rows_of register) j = subst (λ (m : ℕ). FirstAt pair (rows_of register) m) z at in
@@ -226,14 +226,14 @@ module _ (register : List ℕ) where
         ∙ place_rows n j (used register) (drop 9 register) pair value h (rows_within f) at_j)
 
   -- putting a pair where it was found: its row keeps the value, every other row stays; where it has none there is room
-  pub put-rows :
+  pub put_rows :
       (pair value : List ℕ) → framed register ≡ true → length pair ≡ 73 → length value ≡ 1 + n
       → (first_row register pair ≡ Nowhere → full register ≡ false)
       → rows_of (put register (first_row register pair) pair value) ≡ put_row (rows_of register) pair value
   unfolding first_row
-  put-rows pair value t k h room =
+  put_rows pair value t k h room =
       rw (put_day (first_row register pair) pair value, t)
-      (put-found pair value (framed_is register t) k h (own_from 0 (rows_of register) pair) refl (rw t at room))
+      (put_found pair value (framed_is register t) k h (own_from 0 (rows_of register) pair) refl (rw t at room))
 
 -- cancelling a pair that was found puts its row
 pub cancelled_put :

@@ -126,12 +126,12 @@ module _ (register pair : List ℕ) (f : Framed register) where
       ∙ stands_first n (drop (place n k + 73) register) some
       ∙ ap state_of (get_or-drop (place n k + 73) register 0 0 ∙ ap (λ j. get_or register j 0) (add-zero (place n k + 73))))
 
-  stands-found :
+  stands_found :
       (found : Found) → own_from 0 (rows_of register) pair ≡ found
       → standing_at register found ≡ stands_as (look (rows_of register) pair)
   unfolding standing_at is_used
-  stands-found Nowhere e = sym (ap stands_as (look_none 0 (rows_of register) pair e))
-  stands-found (At j) e =
+  stands_found Nowhere e = sym (ap stands_as (look_none 0 (rows_of register) pair e))
+  stands_found (At j) e =
       let (k, number, at) = first_at 0 j (rows_of register) pair e in
       let z : k ≡ j = omega arith in
       let at_j : FirstAt pair (rows_of register) j = subst (λ (m : ℕ). FirstAt pair (rows_of register) m) z at in
@@ -146,7 +146,7 @@ unfolding first_row standing standing_at
 standing_found register pair =
     by_test
     (framed register)
-    (λ t. rw t (stands-found register pair (framed_is register t) (own_from 0 (rows_of register) pair) refl))
+    (λ t. rw t (stands_found register pair (framed_is register t) (own_from 0 (rows_of register) pair) refl))
     (λ t. rw t)
 
 -- the used rows, with the head before them

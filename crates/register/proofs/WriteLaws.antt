@@ -56,11 +56,11 @@ module _ (register : List ℕ) where
   unfolding restated
   restated_not k value e = rw e
 
-  pub restated-stored :
+  pub restated_stored :
       {w : ℕ} (k state day : ℕ) → w ≡ row_width register → is_used register k ≡ true
       → sets register (9 + k * w + 73) (state ∷ little_bytes (w - 74) day) ≡ restated register k (state ∷ little_bytes (day_width register) day)
   unfolding restated
-  restated-stored {w} k state day told e =
+  restated_stored {w} k state day told e =
       let row : RowAt w register k = used_row w register k told e in
       rw e (λ i. sets register (row.place_is i + 73) (state ∷ little_bytes (row.day_is i) day))
 
@@ -76,12 +76,12 @@ module _ (register : List ℕ) where
         let few : count < capacity register = omega (arith, c, not_full (framed_is register t) h) in
         record { row = row_at w register count told t few; number = omega (arith, capacity_small register) }
 
-    pub appended-stored :
+    pub appended_stored :
         {bytes row left : List ℕ} (pair : List ℕ) (state day : ℕ) → length pair ≡ 73 → bytes ≡ sets register (9 + count * w) pair
         → row ≡ sets bytes (9 + count * w + 73) (state ∷ little_bytes (w - 74) day) → left ≡ sets row 5 (little_bytes 4 (count + 1))
         → left ≡ appended register pair (state ∷ little_bytes (day_width register) day)
     unfolding appended
-    appended-stored {bytes} {row} {left} pair state day h first second third =
+    appended_stored {bytes} {row} {left} pair state day h first second third =
         let value : List ℕ = state ∷ little_bytes (w - 74) day in
         let whole : row ≡ sets register (9 + count * w) (pair ++ value) =
         second

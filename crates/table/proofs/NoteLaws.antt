@@ -84,37 +84,37 @@ module _ (names numbers : List (List ℕ)) (rows : Rows names numbers) where
         ∙ same_stop l.entity reach (take record_count names) (take record_count numbers) firsts_same
         ∙ ap (first_stop (λ name. name) l.entity) (take-take reach record_count names (reach_within record_count l.entity))
 
-    abbrev noted-by : Bool → Table
-    noted-by t = left (cond t (in_table records common stop (entered_of (get_or records stop free) l)) (in_common records (counted_of common l)))
+    abbrev noted_by : Bool → Table
+    noted_by t = left (cond t (in_table records common stop (entered_of (get_or records stop free) l)) (in_common records (counted_of common l)))
 
-    by_names : left (note_of records common l) ≡ noted-by (ltb stop reach)
+    by_names : left (note_of records common l) ≡ noted_by (ltb stop reach)
     unfolding note_of
     by_names =
         λ i. left
         (cond (ltb (stop_is i) (reach_is i)) (in_table records common (stop_is i) (entered_of (get_or records (stop_is i) free) l))
         (in_common records (counted_of common l)))
 
-    abbrev tallied-at : ℕ → Tally
-    tallied-at i = tallied_of i (record_in (get_or names i []) (get_or numbers i [])) l
+    abbrev tallied_at : ℕ → Tally
+    tallied_at i = tallied_of i (record_in (get_or names i []) (get_or numbers i [])) l
 
     -- the row where the search stops, and the common one where it does not
-    stopped : stop < record_count → with_row (tallied-at stop).after stop ≡ noted-by true
+    stopped : stop < record_count → with_row (tallied_at stop).after stop ≡ noted_by true
     unfolding tallied_of
     stopped h =
-        let t : tallied-at stop ≡ entered_of (get_or records stop free) l =
+        let t : tallied_at stop ≡ entered_of (get_or records stop free) l =
         rw (lt-ltb stop record_count h) (ap (λ (r : Record). entered_of r l) (sym (at_row stop h))) in
-        in_records (tallied-at stop).after stop h
+        in_records (tallied_at stop).after stop h
         ∙ ap (λ (u : Tally). record { records = set records stop u.after; common = common }) t
 
-    not_stopped : with_row (tallied-at record_count).after record_count ≡ noted-by false
+    not_stopped : with_row (tallied_at record_count).after record_count ≡ noted_by false
     unfolding tallied_of
-    not_stopped = in_common_lem (tallied-at record_count).after
+    not_stopped = in_common_lem (tallied_at record_count).after
 
-    in_row : with_row (tallied-at (row_for names l.entity)).after (row_for names l.entity) ≡ left (note_of records common l)
+    in_row : with_row (tallied_at (row_for names l.entity)).after (row_for names l.entity) ≡ left (note_of records common l)
     unfolding row_for
     in_row = go (ltb stop reach) refl ∙ sym by_names
       where
-        go : (t : Bool) → ltb stop reach ≡ t → with_row (tallied-at (cond t stop record_count)).after (cond t stop record_count) ≡ noted-by t
+        go : (t : Bool) → ltb stop reach ≡ t → with_row (tallied_at (cond t stop record_count)).after (cond t stop record_count) ≡ noted_by t
         go true t = stopped (omega (arith, ltb-true stop reach t, reach_within record_count l.entity))
         go false t = not_stopped
 
@@ -126,8 +126,8 @@ module _ (names numbers : List (List ℕ)) (rows : Rows names numbers) where
   noted_row line verdict {row-after} {l} {i} {r} {t} is-line at_place is-record is-tally is_row =
       let to : Line = line_of line verdict in
       let place : i ≡ row_for names to.entity = at_place ∙ ap (λ (x : Line). row_for names x.entity) is-line in
-      let counted : t ≡ tallied-at to (row_for names to.entity) =
-      is-tally ∙ ap (λ (x : Record). tallied_of i x l) is-record ∙ (λ j. tallied-at (is-line j) (place j)) in
+      let counted : t ≡ tallied_at to (row_for names to.entity) =
+      is-tally ∙ ap (λ (x : Record). tallied_of i x l) is-record ∙ (λ j. tallied_at (is-line j) (place j)) in
       let names-put : set names i t.after.entity ≡ set names (row_for names to.entity) (record_after names numbers to).entity =
       λ j. set names (place j) (counted j).after.entity in
       let numbers-put : set numbers i row-after ≡ set numbers (row_for names to.entity) (row_of (record_after names numbers to)) =

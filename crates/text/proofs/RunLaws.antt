@@ -58,8 +58,8 @@ module _ (k : Class) (letter : ℕ) (stands : (b : ℕ) → suits letter b ≡ i
   run_says (suc n) pattern (b ∷ t) h =
       (λ i. stands b i && run_says n pattern t (omega arith) i) ∙ sym (and_assoc (in_class k b) (all_of k (take n t)) (shape pattern (drop n t)))
 
-  abbrev of-class : ℕ → Run
-  of-class n =
+  abbrev of_class : ℕ → Run
+  of_class n =
       record {
         width = n;
         letters = times n letter;
@@ -85,16 +85,16 @@ hash_letter b = refl
 
 -- d, u, n and h
 abbrev pub digits : ℕ → Run
-digits = of-class Digit 100 digit_letter
+digits = of_class Digit 100 digit_letter
 
 abbrev pub capitals : ℕ → Run
-capitals = of-class Capital 117 capital_letter
+capitals = of_class Capital 117 capital_letter
 
 abbrev pub codes : ℕ → Run
-codes = of-class CapitalDigit 110 code_letter
+codes = of_class CapitalDigit 110 code_letter
 
 abbrev pub hashes : ℕ → Run
-hashes = of-class CapitalHash 104 hash_letter
+hashes = of_class CapitalHash 104 hash_letter
 
 -- a byte that stands for itself
 module _ (letter : ℕ) (stands : (b : ℕ) → suits letter b ≡ eqb b letter) where

@@ -1,7 +1,7 @@
 use mathlib.Core.Path.{refl}
 use mathlib.Core.Logic.{inl, inr}
 use Prim.Native.Nat.{◌≤◌}
-use Rattle.lists.proofs.FrameLaws.{widths, rows_fit, framed_short, framed-by}
+use Rattle.lists.proofs.FrameLaws.{widths, rows_fit, framed_short, framed_by}
 use borrow.Author.Rules.{rules}
 use native.Mathlib.Omega.{arith}
 use Rattle.lists.proofs.frame.framed.Goals as goal
@@ -23,7 +23,7 @@ pub word-requires : goal.word-requires
 word-requires c = (inr (inl refl), omega arith)
 
 pub returns : goal.returns
-returns c = framed-by
+returns c = framed_by
     c.args.mark
     c.args.list.now
     (record { small = λ i. omega (arith, c.type_inv.list i) })

@@ -6,7 +6,7 @@ use mathlib.Core.Path.{◌≡◌}
 use Prim.Native.Nat.{ℕ}
 use Rattle.register.specs.Conversion.{conversion_answer}
 use Rattle.register.specs.Frame.{place, used}
-use Rattle.register.proofs.ConversionLaws.{conversion_room, conversion_none, conversion-done}
+use Rattle.register.proofs.ConversionLaws.{conversion_room, conversion_none, conversion_done}
 use native.Mathlib.Omega.{arith}
 use Rattle.register.proofs.conversion.convert.Goals as goal
 
@@ -33,7 +33,7 @@ write_rows-requires c = (
 )
 
 pub returns : goal.returns
-returns c = conversion-done
+returns c = conversion_done
     _
     _
     c.refusal-no.ensures

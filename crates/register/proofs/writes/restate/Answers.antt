@@ -5,7 +5,7 @@ use Prim.Native.Nat.{ℕ}
 use Rattle.register.specs.Frame.{is_used, row_width}
 use Rattle.register.proofs.WidthLaws.{RowAt}
 use Rattle.register.proofs.RowLaws.{used_row}
-use Rattle.register.proofs.WriteLaws.{value_within, restated_not, restated-stored}
+use Rattle.register.proofs.WriteLaws.{value_within, restated_not, restated_stored}
 use native.Mathlib.Omega.{arith}
 use Rattle.register.proofs.writes.restate.Goals as goal
 
@@ -28,4 +28,4 @@ pub write_value-requires : goal.write_value-requires
 write_value-requires c = ((row c.args.width c.args.register.now c.args.row c.requires c.is_used.ensures c.if-not-is_used.false).known, omega (arith, value_within (row c.args.width c.args.register.now c.args.row c.requires c.is_used.ensures c.if-not-is_used.false)))
 
 pub returns : goal.returns
-returns c = c.write_value.ensures ∙ restated-stored c.args.register.now c.args.row c.args.state c.args.day c.requires (sym c.is_used.ensures ∙ c.if-not-is_used.false)
+returns c = c.write_value.ensures ∙ restated_stored c.args.register.now c.args.row c.args.state c.args.day c.requires (sym c.is_used.ensures ∙ c.if-not-is_used.false)
