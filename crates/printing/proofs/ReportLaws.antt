@@ -44,7 +44,7 @@ pub counted_one : {s0 s1 s2 s3 : List ℕ} {kept a b n : ℕ} (code count : ℕ)
 unfolding count_text spaced
 counted_one code count e p q r =
     let text : (spaced (code ∷ []) ++ (58 ∷ [])) ++ decimal count ≡ (32 ∷ decimal code) ++ (58 ∷ decimal count) =
-    simp (append-nil, append_assoc) in
+    simp append_assoc in
     rw (ne_eqb count 0 e, sym text) (keep_then (keep_then p q) r)
 
 -- the first i codes are put
