@@ -57,6 +57,8 @@ module _ {K L : Type 0} (ask : Asked K) (asks : Asked L) where
     same_count : (p : K → Bool) (q : L → Bool) (ks : List K) (ls : List L) → ((k : K) (l : L) → Agree k l → p k ≡ q l) → AllAgree ks ls
         → count (λ k earlier. such k earlier && p k) ks ≡ count (λ l earlier. suchlike l earlier && q l) ls
     same_count p q [] [] alike none = refl
+    same_count p q [] (l ∷ ls) alike x = elim x [ ]
+    same_count p q (k ∷ ks) [] alike x = elim x [ ]
     same_count p q (k ∷ ks) (l ∷ ls) alike (more a all) = λ i. bit (agrees k l ks ls a all i && alike k l a i) + same_count p q ks ls alike all i
 
     same_codes : (j n : ℕ) (ks : List K) (ls : List L) → j + n ≡ code_count → AllAgree ks ls → codes_of ask such ks j n ≡ codes_of asks suchlike ls j n
