@@ -1,6 +1,4 @@
 use Prim.Native.Nat.{◌-◌, ◌≤◌}
-use borrow.Author.Rules.{rules}
-use native.Mathlib.Omega.{arith}
 use Rattle.vectors.proofs.reading.behind.Given as goal
 
 abbrev pub invariant-loop-i : goal.invariant-loop-i

@@ -1,6 +1,5 @@
 use Prim.Native.Nat.{◌-◌, ◌≤◌}
 use lib.ListN.{length}
-use native.Mathlib.Omega.{arith}
 use Rattle.vectors.proofs.reading.place_of.Given as goal
 
 abbrev pub invariant-loop-i : goal.invariant-loop-i
