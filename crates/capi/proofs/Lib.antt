@@ -1,4 +1,3 @@
 -- What the C functions promise: what `judge` and `convert` do, and of the day's table what `note_of` says; which leaves nothing open.
-mod PlainCall
-mod SameContract
-mod Unique
+pub mod SameContract
+pub mod Unique

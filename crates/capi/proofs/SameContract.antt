@@ -1,6 +1,6 @@
 -- The contracts of the exported functions are those of `judge` and of `convert`, over the same arguments in the same order; the number that C
--- hands in for Polish identifiers asks for them where it is not 0. The contract of `boanhetri_note`, which is proved by hand and so stands in the
--- program logic alone, is `Noting` of what was lent and handed in, and asks for nothing.
+-- hands in for Polish identifiers asks for them where it is not 0. The contract of `boanhetri_note` is, in the program logic, `Noting` of what
+-- was lent and handed in, and asks for nothing.
 use mathlib.Core.Path.{◌≡◌, refl}
 use mathlib.Core.Bool.{not}
 use mathlib.Core.List.{List}

@@ -50,8 +50,8 @@ pub fn boanhetri_convert(from: &[u8], to: &mut [u8]) -> u16
     register::convert(from, to)
 }
 
-// Finds the record of the line's entity, or the first free one, and counts the line there; else in the common record. The kit has no
-// plan for a slice of structs, so this is proved by hand and does nothing else: what is counted and compared is in summary.
+// Finds the record of the line's entity, or the first free one, and counts the line there; else in the common record. What is counted
+// and compared is in summary.
 pub fn boanhetri_note(
     records: &mut [Record],
     common: &mut Record,
