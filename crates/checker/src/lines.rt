@@ -4,6 +4,7 @@ ghost use Rattle.checker.specs.Bare.{bare as Bare·bare};
 ghost use Rattle.checker.specs.Progress.{line_end};
 
 // A line whose LF is dropped, without a CR at its end.
+#[tactic(auto, using(crate::proofs::BareLaws::bare_none, crate::proofs::BareLaws::bare_cr, crate::proofs::BareLaws::bare_whole))]
 pub fn bare(s: &[u8]) -> &[u8]
     ensures { result.now ≡ Bare·bare s.now }
 {
