@@ -4,7 +4,9 @@ use Prim.Native.Nat.{ℕ}
 use mathlib.Core.Bool.{Bool}
 use mathlib.Core.List.{List}
 use Rattle.reader.specs.declared.Taken.{Taken}
-use Rattle.text.proofs.Determined.{Seen, Determined, same_both}
+use Rattle.text.proofs.Determined.{Seen, Determined, SeenByHand, DeterminedByHand, from_both, same_both}
+use Rattle.reader.specs.contracts.new as new
+use Rattle.reader.specs.contracts.step as step
 use Rattle.reader.proofs.new.Kinds as new_kinds
 use Rattle.reader.proofs.new.Reads as new_reads
 use Rattle.reader.proofs.step.Kinds as step_kinds
@@ -32,14 +34,22 @@ cell_before_determined κs a x y s t = same_both
 pub first_determined : Seen first_kinds.ps first_kinds.r (λ κs x. x.now) first_reads.Post
 first_determined κs a x y s t = same_both
 
-pub new_determined : Determined new_kinds.ps new_kinds.r new_reads.Post
-new_determined κs a x y s t = same_both
+-- of `new` and `step` it is said in the program logic, and of the plain reading of their contracts too
+pub new_determined : DeterminedByHand new.ended (λ M 𝓤 𝓛. new.clauses 𝓛)
+new_determined M 𝓤 𝓛 mem run κs a g x y s t = from_both 𝓤 _ _ _ same_both
+
+pub new_read_determined : Determined new_kinds.ps new_kinds.r new_reads.Post
+new_read_determined κs a x y s t = same_both
 
 abbrev shown : Taken → List ℕ × (ℕ × Bool)
 shown t = (t.cell.now, (t.next, t.done))
 
-pub step_determined : Seen step_kinds.ps step_kinds.r (λ κs t. shown t) step_reads.Post
-step_determined κs a x y s t =
+pub step_determined : SeenByHand step.ended (λ κs t. shown t) (λ M 𝓤 𝓛. step.clauses 𝓛)
+step_determined M 𝓤 𝓛 mem run κs a g x y s t =
+    from_both 𝓤 _ _ _ (λ p q i. (same_both p.hands q.hands i, (same_both p.places q.places i, same_both p.ends q.ends i)))
+
+pub step_read_determined : Seen step_kinds.ps step_kinds.r (λ κs t. shown t) step_reads.Post
+step_read_determined κs a x y s t =
     λ p q i. (same_both p.hands q.hands i, (same_both p.places q.places i, same_both p.ends q.ends i))
 
 pub step_from_determined : Determined step_from_kinds.ps step_from_kinds.r step_from_reads.Post
