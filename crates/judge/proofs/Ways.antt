@@ -74,8 +74,8 @@ module _ (c : Call) (before : List ℕ) where
             keeps = rw dirty;
           })
 
-      module _ (clear : v.count ≡ 0) {new absent is-full : Bool}
-          (New-is : new ≡ is_new c.line) (absent_is : absent ≡ is_absent (standing_of c)) (Full-is : is-full ≡ full c.register) where
+      module _ (clear : v.count ≡ 0) {new absent is_full : Bool}
+          (new_is : new ≡ is_new c.line) (absent_is : absent ≡ is_absent (standing_of c)) (full_is : is_full ≡ full c.register) where
         cleaned : clean c ≡ true
         unfolding clean
         cleaned = eq-eqb _ _ (sym count_is ∙ clear)
@@ -84,17 +84,17 @@ module _ (c : Call) (before : List ℕ) where
         unfolding no_room
         only e = rw e
 
-        room_is : (new && absent && is-full) ≡ no_room c
+        room_is : (new && absent && is_full) ≡ no_room c
         unfolding no_room
         room_is =
-            (λ i. New-is i && absent_is i && Full-is i)
+            (λ i. new_is i && absent_is i && full_is i)
             ∙ and_assoc (is_new c.line) (is_absent (standing_of c)) (full c.register)
             ∙ sym (only cleaned)
 
-        pub full_way : {w : Verdict} → (new && absent && is-full) ≡ true → w ≡ refused_by 11 → Judged (outcome c (length before)) before w before c.register
+        pub full_way : {w : Verdict} → (new && absent && is_full) ≡ true → w ≡ refused_by 11 → Judged (outcome c (length before)) before w before c.register
         full_way t s = refused_as 11 (out_eleven c (length before) none whole (sym room_is ∙ t)) s
 
-        pub clean_way : {register : List ℕ} → (new && absent && is-full) ≡ false → register ≡ written c
+        pub clean_way : {register : List ℕ} → (new && absent && is_full) ≡ false → register ≡ written c
             → Judged (outcome c (length before)) before v before register
         clean_way t r =
             rw (out_judged c (length before) none whole (sym room_is ∙ t))

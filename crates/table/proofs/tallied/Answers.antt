@@ -7,8 +7,8 @@ use Rattle.table.proofs.tallied.Goals as goal
 
 pub returns-then-row-lt-RECORD_COUNT : goal.returns-then-row-lt-RECORD_COUNT
 unfolding tallied_of
-returns-then-row-lt-RECORD_COUNT c = cond_yes _ (lt-ltb c.args.row record_count (omega (arith, c.if-row-lt-RECORD_COUNT.true))) c.entered.ensures
+returns-then-row-lt-RECORD_COUNT c = cond_yes _ (lt-ltb c.args.row record_count (omega arith)) c.entered.ensures
 
 pub returns : goal.returns
 unfolding tallied_of
-returns c = cond_no _ (le-ltb c.args.row record_count (omega (arith, c.if-row-lt-RECORD_COUNT.false))) c.counted.ensures
+returns c = cond_no _ (le-ltb c.args.row record_count (omega arith)) c.counted.ensures
