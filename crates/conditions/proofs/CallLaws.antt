@@ -158,6 +158,10 @@ module _ (c : Call) (s : Sound c) where
       ∙ rw (put_framed c.register row pair value, f, rows, look_put (rows_of c.register) pair value pair, same_refl pair)
       (by_test (is_new c.line) (λ t. rw t) (λ t. rw t))
 
+-- what a call that is judged leaves in the register
+pub judged_leaves : (c : Call) → (judged_outcome c).register ≡ cond (clean c) (written c) c.register
+judged_leaves c = refl
+
 -- the version is the one that the call finds
 pub written_version : (c : Call) → version (written c) ≡ version c.register
 unfolding written

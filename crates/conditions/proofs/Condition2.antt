@@ -26,7 +26,7 @@ use Rattle.judge.proofs.FlagLaws.{flag_count, few_found}
 use Rattle.conditions.specs.Condition1.{reached}
 use Rattle.conditions.specs.Condition2.{listed, NotRefused, Condition2}
 use Rattle.conditions.proofs.FoundLaws.{rule_once, form_once, none_other, nothing_found, says_found, lists_found, count_found, listed_found}
-use Rattle.conditions.proofs.CallLaws.{Way, refused, stuck, heard, way, sound, stands_after}
+use Rattle.conditions.proofs.CallLaws.{judged_leaves, Way, refused, stuck, heard, way, sound, stands_after}
 
 module _ (call : Call) {before findings left : List ℕ} {verdict : Verdict} (j : Judged (outcome call (length before)) before verdict findings left) where
   abbrev found : List ℕ
@@ -47,7 +47,7 @@ module _ (call : Call) {before findings left : List ℕ} {verdict : Verdict} (j 
     fits = omega (arith, room, few_found call)
 
     keeps : left ≡ cond (clean call) (written call) call.register
-    keeps = j.keeps ∙ ap (λ (x : Outcome). x.register) o
+    keeps = j.keeps ∙ (ap (λ (x : Outcome). x.register) o ∙ judged_leaves call)
 
     is_clean : verdict.count ≡ 0 → clean call ≡ true
     unfolding clean

@@ -28,7 +28,7 @@ use Rattle.conditions.specs.Condition3.{Answered, Event, Line, pair_in, Last, ev
 use Rattle.conditions.proofs.LineLaws.{Known, new_known, cxl_known, good_shaped, clean_shaped, clean_cxl}
 use Rattle.conditions.proofs.FoundLaws.{rule_once, clean_rule, listed_found}
 use Rattle.conditions.proofs.TableLaws.{state_for, live_is, absent_is, cancelled_is, shaped_is, ever_shaped}
-use Rattle.conditions.proofs.CallLaws.{Way, refused, stuck, heard, way, reached_day, Sound, sound, written_is, no_row_room}
+use Rattle.conditions.proofs.CallLaws.{judged_leaves, Way, refused, stuck, heard, way, reached_day, Sound, sound, written_is, no_row_room}
 use Rattle.conditions.proofs.Kept.{Kept, kept_start, stands_as, one_row, day_is, used_is, full_is, kept_same, kept_put, kept_converted}
 
 module _ {c : ℕ} {history : List Event} {register : List ℕ} (k : Kept c history register) where
@@ -70,7 +70,7 @@ module _ {c : ℕ} {history : List Event} (call : Call) {before findings left : 
   kept_way (stuck r t o) = refusal_kept 11 (λ e. omega arith) o
   kept_way (heard r t o) =
       let says : verdict ≡ verdict_of (all_flags call) = j.says ∙ ap (λ (x : Outcome). x.verdict) o in
-      let keeps : left ≡ cond (clean call) (written call) call.register = j.keeps ∙ ap (λ (x : Outcome). x.register) o in
+      let keeps : left ≡ cond (clean call) (written call) call.register = j.keeps ∙ (ap (λ (x : Outcome). x.register) o ∙ judged_leaves call) in
       by_test
       (clean call)
       (λ e.
