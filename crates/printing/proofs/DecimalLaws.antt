@@ -1,4 +1,4 @@
--- The fewest decimal digits of a number are those of `digitsOf`; and numbers behind spaces, one more at the end.
+-- The fewest decimal digits of a number are those of `last_digits`; and numbers behind spaces, one more at the end.
 use mathlib.Core.Path.{◌≡◌, refl, sym}
 use mathlib.Core.Bool.{Bool, true, false, cond}
 use mathlib.Core.List.{List, [], ◌∷◌, ◌++◌, append-nil, append_assoc}
