@@ -2,8 +2,8 @@
 """Respells the repository's own definitions and lemmas: words in snake case, as the library's are.
 
 Run once, at the top, after the kit's port.py. It renames what specs/ and the lemma files of proofs/ declare, wherever
-it is cited: in .antt files, in the ghost lines and clauses of .rt files, and in must-fail edits. Types keep their
-capitals; names that the prover makes, functions of src/, strings and comments stay as they are.
+it is cited: in .antt files, and in the ghost lines and clauses of .rt files. Must-fail edits are brought over by hand. Types
+keep their capitals; names that the prover makes, functions of src/, strings and comments stay as they are.
 """
 import collections
 import glob
@@ -155,9 +155,6 @@ def main():
         new = turned_source(text, names)
         if new != text:
             open(path, "w", encoding="utf8").write(new)
-    with open("/tmp/respelled.txt", "w", encoding="utf8") as out:
-        for name in sorted(names):
-            out.write(f"{name} {names[name]}\n")
 
 
 main()
