@@ -5,14 +5,16 @@ use mathlib.Core.List.{List, [], ◌∷◌, ◌++◌, map, append_assoc, append-
 use Prim.Native.Nat.{ℕ, zero, suc, ◌+◌, ◌≤◌, ◌<◌}
 use native.Mathlib.Numerals.{add-one}
 use native.Mathlib.Omega.{arith}
-use borrow.Author.Tests.{eq-eqb, ne_eqb, leb-true, leb-false, ltb-true, ltb-false}
+use borrow.Author.Tests.{ne_eqb, leb-true, leb-false, ltb-true, ltb-false}
 use lib.Dec.{leb, ltb}
 use lib.ListN.{length, get_or, take, drop, set, replicate, length-set}
 use lib.Seq.{take-suc, take-suc-set, take_all, take-set-le, get_or-take, drop-length}
+use Rattle.std.specs.Prelude.{None}
 use Rattle.text.proofs.Bools.{by_test, and_left, and_right}
 use Rattle.text.proofs.Lists.{rest_at}
 use Rattle.cells.specs.Cells.{is_bar, bars_of}
-use Rattle.cells.specs.Split.{bar_places, starts_of, ends_of, split_of, not_split}
+use Rattle.cells.specs.Split.{bar_places, starts_of, ends_of, Tabled}
+use Rattle.cells.specs.Parted.{split_of}
 use Rattle.cells.specs.Pass.{Met, Ahead, Walked, Over}
 
 -- what a store at the end of the filled part adds
@@ -108,7 +110,7 @@ module _ {line places : List ℕ} {bars i : ℕ} (met : Met line places bars i) 
       let m : Met line places bars (length line) = met_end (ltb-false i (length line) n) in
       record { whole = λ e. rw e at m; other = λ e f. omega (arith, e, f, m.count, ap bars_of (drop-length line)) })
 
-pub not_whole_lem : {line places : List ℕ} {bars : ℕ} → Over line places bars → (bars ≡ 64 → ⊥) → not_split ≡ split_of line
+pub not_whole_lem : {line places : List ℕ} {bars : ℕ} → Over line places bars → (bars ≡ 64 → ⊥) → None ≡ split_of line
 unfolding split_of
 not_whole_lem {line} over e = rw (ne_eqb (bars_of line) 64 (over.other e))
 
@@ -164,6 +166,5 @@ module _ {line places : List ℕ} (met : Met line places 64 (length line)) where
     count_is : bars_of line ≡ 64
     count_is = omega (arith, met.count, ap bars_of (drop-length line))
 
-    pub copied_all : record { whole = true; starts = starts; ends = set ends 64 (length line) } ≡ split_of line
-    unfolding split_of
-    copied_all = rw (eq-eqb (bars_of line) 64 count_is) (λ j. record { whole = true; starts = starts_whole j; ends = ends_whole j })
+    pub copied_all : Tabled line starts (set ends 64 (length line))
+    copied_all = record { count = count_is; starts_are = starts_whole; ends_are = ends_whole }

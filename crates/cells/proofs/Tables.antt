@@ -8,9 +8,11 @@ use borrow.Author.Tests.{eqb-true, eq-eqb}
 use lib.Dec.{eqb}
 use lib.ListN.{length, get_or, take, drop, get_or-eq_default}
 use Rattle.text.proofs.Bools.{by_test}
-use Rattle.cells.specs.declared.SplitLine.{SplitLine}
+use Rattle.std.specs.Prelude.{Option, None, Some}
+use Rattle.cells.specs.declared.line.SplitLine.{SplitLine}
 use Rattle.cells.specs.Cells.{is_bar, bars_of, first_cell, later_cells, cells_of, cell}
-use Rattle.cells.specs.Split.{bar_places, starts_of, ends_of, split_of, not_split, Tabled}
+use Rattle.cells.specs.Split.{bar_places, starts_of, ends_of, Tabled}
+use Rattle.cells.specs.Parted.{Places, split_of, in_places}
 use Rattle.cells.proofs.CellLaws.{cells_count}
 
 -- a cell stands from start to end: in order, within the line, and the part between is the cell
@@ -85,27 +87,29 @@ unfolding cell
 no_cell_zero line zero h = refl
 no_cell_zero line (suc f) h = absurd (omega arith)
 
--- what the answer of a split says of the tables
-module _ (line : List ℕ) (t : SplitLine) (split : t ≡ split_of line) where
-  yes_split : eqb (bars_of line) 64 ≡ true → t ≡ record { whole = true; starts = starts_of line; ends = ends_of line }
-  unfolding split_of
-  yes_split y = split ∙ rw y
+-- what the answer of a split says of the line and its tables
+abbrev line_in : Option Places → List ℕ
+line_in None = []
+line_in (Some p) = p.line
 
-  not_a_split : eqb (bars_of line) 64 ≡ false → t ≡ not_split
-  unfolding split_of
-  not_a_split n = split ∙ rw n
+pub same_line : (line : List ℕ) (t : SplitLine) → in_places (Some t) ≡ split_of line → t.line.now ≡ line
+unfolding split_of
+same_line line t split =
+    by_test
+    (eqb (bars_of line) 64)
+    (λ y. ap line_in (rw y at split))
+    (λ n. let e : in_places (Some t) ≡ None = rw n at split in cc)
 
-  pub split_whole : t.whole ≡ true → Tabled line t.starts t.ends
-  split_whole w =
-      by_test
-      (eqb (bars_of line) 64)
-      (λ y.
-      record {
-        count = eqb-true _ _ y;
-        starts_are = ap (λ (x : SplitLine). x.starts) (yes_split y);
-        ends_are = ap (λ (x : SplitLine). x.ends) (yes_split y);
-      })
-      (λ n. absurd (true≢false (sym w ∙ ap (λ (x : SplitLine). x.whole) (not_a_split n))))
+pub split_whole : (line : List ℕ) (t : SplitLine) → in_places (Some t) ≡ split_of line → Tabled line t.starts t.ends
+split_whole line t split = rw (same_line line t split) at t.tabled
 
-  pub split_not : t.whole ≡ false → bars_of line ≡ 64 → ⊥
-  split_not w b = true≢false (sym (ap (λ (x : SplitLine). x.whole) (yes_split (eq-eqb _ _ b))) ∙ w)
+pub split_not : (line : List ℕ) → in_places None ≡ split_of line → bars_of line ≡ 64 → ⊥
+unfolding split_of
+split_not line split b = let e : in_places None ≡ Some (record { line = line; starts = starts_of line; ends = ends_of line }) = rw (eq-eqb _ _ b) at split in cc
+
+-- a line of 64 bars with tables of its own is what a split of it is
+pub split_yes : (line : List ℕ) (t : SplitLine) → t.line.now ≡ line → in_places (Some t) ≡ split_of line
+unfolding split_of
+split_yes line t e =
+    let b : bars_of line ≡ 64 = rw e at t.tabled.count in
+    rw (eq-eqb _ _ b) (ap Some (λ j. record { line = e j; starts = (rw e at t.tabled.starts_are) j; ends = (rw e at t.tabled.ends_are) j }))

@@ -2,3 +2,4 @@
 pub mod Cells
 pub mod Split
 pub mod Pass
+pub mod Parted

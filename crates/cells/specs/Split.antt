@@ -1,6 +1,5 @@
 -- A line of 65 cells by the places where they start and end.
-use Rattle.std.specs.Prelude.{ℕ, suc, ◌≡◌, true, false, cond, List, [], ◌∷◌, ◌++◌, map, eqb, length, replicate}
-use Rattle.cells.specs.declared.SplitLine.{SplitLine}
+use Rattle.std.specs.Prelude.{ℕ, suc, ◌≡◌, cond, List, [], ◌∷◌, ◌++◌, map, length}
 use Rattle.cells.specs.Cells.{is_bar, bars_of}
 
 -- the places of the bars, the first byte being at place n
@@ -14,12 +13,6 @@ starts_of s = 0 ∷ map suc (bar_places 0 s)
 
 unfoldable pub ends_of : List ℕ → List ℕ
 ends_of s = bar_places 0 s ++ (length s ∷ [])
-
-abbrev pub not_split : SplitLine
-not_split = record { whole = false; starts = replicate 65 0; ends = replicate 65 0 }
-
-unfoldable pub split_of : List ℕ → SplitLine
-split_of s = cond (eqb (bars_of s) 64) (record { whole = true; starts = starts_of s; ends = ends_of s }) not_split
 
 -- the two tables are those of a line of 65 cells
 pub record Tabled (line starts ends : List ℕ) : Type 0 where

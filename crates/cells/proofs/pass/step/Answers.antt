@@ -1,6 +1,6 @@
 use Rattle.cells.proofs.PassLaws.{stepped}
 use native.Mathlib.Omega.{arith}
-use Rattle.cells.proofs.step.Goals as goal
+use Rattle.cells.proofs.pass.step.Goals as goal
 
 pub overflow_add-result : goal.overflow_add-result
 overflow_add-result c = omega (arith, (stepped c.requires).few, c.requires.entries)

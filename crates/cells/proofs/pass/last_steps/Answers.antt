@@ -1,6 +1,6 @@
 use Rattle.cells.proofs.PassLaws.{one_ahead, over}
 use native.Mathlib.Omega.{arith}
-use Rattle.cells.proofs.last_steps.Goals as goal
+use Rattle.cells.proofs.pass.last_steps.Goals as goal
 
 pub step-bars-requires : goal.step-bars-requires
 step-bars-requires c = one_ahead c.loop-i.invariant c.loop-i-test.true

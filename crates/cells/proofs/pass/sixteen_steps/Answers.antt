@@ -1,6 +1,6 @@
 use Rattle.cells.proofs.PassLaws.{part_of, part_after, walked_on}
 use native.Mathlib.Omega.{arith}
-use Rattle.cells.proofs.sixteen_steps.Goals as goal
+use Rattle.cells.proofs.pass.sixteen_steps.Goals as goal
 
 pub four_steps-first-requires : goal.four_steps-first-requires
 four_steps-first-requires c = part_of c.requires (omega arith)

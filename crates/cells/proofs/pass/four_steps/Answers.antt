@@ -1,6 +1,6 @@
 use Rattle.cells.proofs.PassLaws.{part_of, part_after, walked_on}
 use native.Mathlib.Omega.{arith}
-use Rattle.cells.proofs.four_steps.Goals as goal
+use Rattle.cells.proofs.pass.four_steps.Goals as goal
 
 pub step-first-requires : goal.step-first-requires
 step-first-requires c = part_of c.requires (omega arith)
