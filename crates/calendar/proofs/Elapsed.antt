@@ -7,6 +7,7 @@ use native.Mathlib.Omega.{arith}
 use lib.Dec.{leb, ltb}
 use lib.ListN.{take, drop}
 use borrow.Author.Tests.{leb-true, ltb-true, ltb-false, le-leb, lt-ltb, le-ltb, eq-eqb, ne_eqb}
+use Rattle.std.specs.Prelude.{Some, None}
 use Rattle.text.specs.Ascii.{ascii}
 use Rattle.text.specs.Shape.{shape}
 use Rattle.text.specs.Number.{two_digits, four_digits}
@@ -15,11 +16,7 @@ use Rattle.text.proofs.NumberLaws.{two_small, four_small}
 use Rattle.calendar.specs.Day.{year_of, month_of, day_of, is_day}
 use Rattle.calendar.specs.Dates.{day_written, date_of}
 use Rattle.calendar.specs.Moments.{hour_of, minute_of, second_of, is_time, is_ending, micro_written, is_moment_cell, when_of, is_moment, is_before}
-use Rattle.calendar.specs.declared.dates.Date.{Date}
-use Rattle.calendar.specs.declared.dates.Date.TheVariants.{On}
 use Rattle.calendar.specs.declared.moments.Moment.{Moment}
-use Rattle.calendar.specs.declared.moments.When.{When}
-use Rattle.calendar.specs.declared.moments.When.TheVariants.{At}
 use Rattle.calendar.proofs.DayNumber.{day_number}
 use Rattle.calendar.proofs.Calendar.{day_order}
 
@@ -57,22 +54,22 @@ cell_right s e =
     rw (day, le-leb _ _ (time_small s (and_right (a && is_day (day_written s)) (is_time s) e)))
 
 -- a date that is read is a real day, and a moment that is read is a right one
-pub date_right : (s : List ℕ) (ymd : ℕ) → date_of s ≡ On ymd → is_day ymd ≡ true
+pub date_right : (s : List ℕ) (ymd : ℕ) → date_of s ≡ Some ymd → is_day ymd ≡ true
 unfolding date_of
 date_right s ymd e =
     by_test (shape (ascii "dddd-dd-dd") s && is_day (day_written s))
-    (λ p. let f : On (day_written s) ≡ On ymd = rw p at e in cc (and_right (shape (ascii "dddd-dd-dd") s) (is_day (day_written s)) p))
-    (λ p. let f : Date.Malformed ≡ On ymd = rw p at e in cc)
+    (λ p. let f : Some (day_written s) ≡ Some ymd = rw p at e in cc (and_right (shape (ascii "dddd-dd-dd") s) (is_day (day_written s)) p))
+    (λ p. let f : None ≡ Some ymd = rw p at e in cc)
 
-pub moment_right : (s : List ℕ) (t : Moment) → when_of s ≡ At t → is_moment t.day t.micro ≡ true
+pub moment_right : (s : List ℕ) (t : Moment) → when_of s ≡ Some t → is_moment t.day t.micro ≡ true
 unfolding when_of
 moment_right s t e =
     by_test (is_moment_cell s)
     (λ p.
-    let f : At (record { day = day_written s; micro = micro_written s }) ≡ At t = rw p at e in
+    let f : Some (record { day = day_written s; micro = micro_written s }) ≡ Some t = rw p at e in
     let g : record { day = day_written s; micro = micro_written s } ≡ t = cc in
     subst (λ (m : Moment). is_moment m.day m.micro ≡ true) g (cell_right s p))
-    (λ p. let f : When.Malformed ≡ At t = rw p at e in cc)
+    (λ p. let f : None ≡ Some t = rw p at e in cc)
 
 right : (t : Moment) → is_moment t.day t.micro ≡ true → (is_day t.day ≡ true) × (t.micro < 86400000000)
 unfolding is_moment

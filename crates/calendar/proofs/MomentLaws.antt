@@ -7,6 +7,7 @@ use native.Mathlib.Omega.{arith}
 use borrow.Author.Tests.{eqb-true, eqb-false}
 use lib.Dec.{eqb}
 use lib.ListN.{length, get_or, take, drop, drop_of_length-le}
+use Rattle.std.specs.Prelude.{None}
 use Rattle.text.specs.declared.classes.Class.TheVariants.{Digit}
 use Rattle.text.specs.Ascii.{ascii}
 use Rattle.text.specs.Class.{all_of}
@@ -14,7 +15,6 @@ use Rattle.text.specs.Shape.{shape}
 use Rattle.text.proofs.Bools.{by_test}
 use Rattle.text.proofs.WordLaws.{other_length}
 use Rattle.text.proofs.RunLaws.{in_runs, times}
-use Rattle.calendar.specs.declared.moments.When.TheVariants.{Malformed}
 use Rattle.calendar.specs.Day.{is_day}
 use Rattle.calendar.specs.Dates.{day_written}
 use Rattle.calendar.specs.Moments.{is_ending, is_time, is_moment_cell, when_of}
@@ -78,13 +78,13 @@ module _ (t : List ℕ) where
 
 -- a cell that is written as a moment, with its ending, has still to write a real day and time
 module _ (s : List ℕ) where
-  pub no_ending : length s < 20 → Malformed ≡ when_of s
+  pub no_ending : length s < 20 → None ≡ when_of s
   unfolding when_of is_moment_cell is_ending shape
   no_ending h =
       let none : length s ≤ 19 = omega arith in
       rw (drop_of_length-le s none, and-false)
 
-  pub not_written : (shape (ascii "dddd-dd-ddTdd:dd:dd") (take 19 s) && is_ending (drop 19 s)) ≡ false → Malformed ≡ when_of s
+  pub not_written : (shape (ascii "dddd-dd-ddTdd:dd:dd") (take 19 s) && is_ending (drop 19 s)) ≡ false → None ≡ when_of s
   unfolding when_of is_moment_cell
   not_written e = rw e
 

@@ -1,13 +1,11 @@
 -- The moment of cell 28, and the submission moment.
-use Rattle.std.specs.Prelude.{ℕ, ◌+◌, ◌*◌, Bool, true, false, cond, ◌&&◌, ◌||◌, List, eqb, leb, ltb, take, drop}
+use Rattle.std.specs.Prelude.{ℕ, ◌+◌, ◌*◌, Bool, cond, ◌&&◌, ◌||◌, List, eqb, leb, ltb, take, drop, Option, Some, None, is_some}
 use Rattle.text.specs.Ascii.{ascii}
 use Rattle.text.specs.Shape.{shape}
 use Rattle.text.specs.Number.{two_digits, four_digits}
 use Rattle.calendar.specs.Day.{is_day}
 use Rattle.calendar.specs.Dates.{day_written}
 use Rattle.calendar.specs.declared.moments.Moment.{Moment}
-use Rattle.calendar.specs.declared.moments.When.{When}
-use Rattle.calendar.specs.declared.moments.When.TheVariants.{At, Malformed}
 
 -- of yyyy-mm-ddThh:mm:ss
 abbrev pub hour_of : List ℕ → ℕ
@@ -46,13 +44,12 @@ micro_written s = ((hour_of s * 60 + minute_of s) * 60 + second_of s) * 1000000 
 unfoldable pub is_moment_cell : List ℕ → Bool
 is_moment_cell s = shape (ascii "dddd-dd-ddTdd:dd:dd") (take 19 s) && is_ending (drop 19 s) && is_day (day_written s) && is_time s
 
-unfoldable pub when_of : List ℕ → When
-when_of s = cond (is_moment_cell s) (At (record { day = day_written s; micro = micro_written s })) Malformed
+unfoldable pub when_of : List ℕ → Option Moment
+when_of s = cond (is_moment_cell s) (Some (record { day = day_written s; micro = micro_written s })) None
 
 -- the cell writes a moment
-abbrev pub is_when : When → Bool
-is_when (At moment) = true
-is_when Malformed = false
+abbrev pub is_when : Option Moment → Bool
+is_when when = is_some when
 
 -- a submission moment is right: a real day, and a microsecond of it
 unfoldable pub is_moment : ℕ → ℕ → Bool

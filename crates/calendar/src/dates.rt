@@ -9,14 +9,6 @@ ghost use Rattle.calendar.specs.Places.{digits_at, pair_at, date_places};
 use crate::days::is_day;
 use text::Class;
 
-// A date cell: the day that it writes, or none.
-#[derive(Clone, Copy)]
-pub enum Date {
-    // yyyymmdd
-    On(u32),
-    Malformed,
-}
-
 // The two digits at a place where there are digits. A digit is 48 more than it counts, so together they are 11 times 48 more.
 pub fn two_at(s: &[u8], at: usize) -> u32
     requires { pair_at at s.now ≡ true }
@@ -47,25 +39,20 @@ fn is_written(s: &[u8]) -> bool
         & text::all_within(s, 8, 10, Class::Digit)
 }
 
-pub fn parse_date(s: &[u8]) -> Date
+// The day that a date cell writes, as yyyymmdd.
+pub fn parse_date(s: &[u8]) -> Option<u32>
     ensures { result ≡ date_of s.now }
 {
     if !is_written(s) {
-        return Date::Malformed;
+        return None;
     }
     let day = day_written(s);
-    if is_day(day) {
-        return Date::On(day);
-    }
-    Date::Malformed
+    is_day(day).then_some(day)
 }
 
 // The cell writes a day.
-pub fn is_date(date: Date) -> bool
+pub fn is_date(date: Option<u32>) -> bool
     ensures { result ≡ is_date date }
 {
-    match date {
-        Date::On(_) => true,
-        Date::Malformed => false,
-    }
+    date.is_some()
 }

@@ -7,6 +7,6 @@ mod dates;
 mod days;
 mod moments;
 
-pub use dates::{Date, is_date, parse_date};
+pub use dates::{is_date, parse_date};
 pub use days::{five_years_before, is_day, is_day_of};
-pub use moments::{Moment, When, is_before, is_moment, is_when, parse_moment};
+pub use moments::{Moment, is_before, is_moment, is_when, parse_moment};

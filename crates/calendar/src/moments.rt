@@ -9,19 +9,13 @@ use crate::dates::{day_written, two_at};
 use crate::days::is_day;
 use text::Class;
 
-#[derive(Clone, Copy)]
+// In the order of time, since the day stands first.
+#[derive(Clone, Copy, PartialEq, Eq, PartialOrd, Ord)]
 pub struct Moment {
     // yyyymmdd
     pub day: u32,
     // microsecond of the day
     pub micro: u64,
-}
-
-// A moment cell: the moment that it writes, or none.
-#[derive(Clone, Copy)]
-pub enum When {
-    At(Moment),
-    Malformed,
 }
 
 // hh:mm:ss of yyyy-mm-ddThh:mm:ss is at most 23:59:59.
@@ -79,31 +73,29 @@ fn micro_written(s: &[u8]) -> u64
     seconds as u64 * 1000000 + fraction as u64
 }
 
-pub fn parse_moment(s: &[u8]) -> When
+// The moment that a cell writes.
+pub fn parse_moment(s: &[u8]) -> Option<Moment>
     ensures { result ≡ when_of s.now }
 {
     if s.len() < 20 {
-        return When::Malformed;
+        return None;
     }
     if !(is_written(text::head(s, 19)) & is_ending(text::rest(s, 19))) {
-        return When::Malformed;
+        return None;
     }
     let day = day_written(s);
     if is_day(day) & is_time(s) {
         let micro = micro_written(s);
-        return When::At(Moment { day, micro });
+        return Some(Moment { day, micro });
     }
-    When::Malformed
+    None
 }
 
 // The cell writes a moment.
-pub fn is_when(when: When) -> bool
+pub fn is_when(when: Option<Moment>) -> bool
     ensures { result ≡ is_when when }
 {
-    match when {
-        When::At(_) => true,
-        When::Malformed => false,
-    }
+    when.is_some()
 }
 
 // A real day, and a microsecond of it.
@@ -116,5 +108,5 @@ pub fn is_moment(day: u32, micro: u64) -> bool
 pub fn is_before(a: Moment, b: Moment) -> bool
     ensures { result ≡ is_before a b }
 {
-    (a.day < b.day) | ((a.day == b.day) & (a.micro < b.micro))
+    a < b
 }

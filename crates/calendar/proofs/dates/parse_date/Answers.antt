@@ -1,11 +1,19 @@
-use mathlib.Core.Path.{◌∙◌, refl, sym, ap}
+use Prim.Native.Nat.{ℕ}
+use mathlib.Core.Path.{◌≡◌, ◌∙◌, refl, sym, ap}
+use mathlib.Core.Bool.{Bool, true, false, cond}
+use Rattle.std.specs.Prelude.{Some, None}
+use Rattle.std.specs.Bool.{then_some}
 use Rattle.text.specs.Ascii.{ascii}
 use Rattle.calendar.specs.Day.{is_day}
 use Rattle.calendar.specs.Dates.{date_of}
 use Rattle.calendar.specs.Places.{date_places}
-use Rattle.calendar.specs.declared.dates.Date.TheVariants.{On}
 use Rattle.calendar.proofs.PlaceLaws.{by_pattern}
 use Rattle.calendar.proofs.dates.parse_date.Goals as goal
+
+-- a value where the test holds, as both put it
+then_some-cond : (b : Bool) (n : ℕ) → then_some b n ≡ cond b (Some n) None
+then_some-cond true n = refl
+then_some-cond false n = refl
 
 pub returns-then-not-is_written : goal.returns-then-not-is_written
 unfolding date_of
@@ -14,11 +22,9 @@ returns-then-not-is_written c = rw (sym c.is_written.ensures ∙ c.if-not-is_wri
 pub day_written-day-requires : goal.day_written-day-requires
 day_written-day-requires c = by_pattern (ascii "dddd-dd-dd") c.args.s.now date_places refl (sym c.is_written.ensures ∙ c.if-not-is_written.false)
 
-pub returns-then-is_day : goal.returns-then-is_day
-unfolding date_of
-returns-then-is_day c = let day = c.day_written-day.ensures in
-    ap On day ∙ rw (sym c.is_written.ensures ∙ c.if-not-is_written.false, ap is_day (sym day) ∙ sym c.is_day.ensures ∙ c.if-is_day.true)
-
 pub returns : goal.returns
 unfolding date_of
-returns c = rw (sym c.is_written.ensures ∙ c.if-not-is_written.false, ap is_day (sym c.day_written-day.ensures) ∙ sym c.is_day.ensures ∙ c.if-is_day.false)
+returns c =
+    let day = c.day_written-day.ensures in
+    rw (sym c.is_written.ensures ∙ c.if-not-is_written.false)
+    (c.then_some.ensures ∙ then_some-cond _ _ ∙ λ i. cond ((c.is_day.ensures ∙ ap is_day day) i) (Some (day i)) None)

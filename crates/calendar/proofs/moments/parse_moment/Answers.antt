@@ -3,13 +3,13 @@ use mathlib.Core.Bool.{Bool, true, ◌&&◌}
 use mathlib.Core.List.{List}
 use Prim.Native.Nat.{ℕ}
 use lib.ListN.{take, drop}
+use Rattle.std.specs.Prelude.{Some, None}
 use Rattle.text.specs.Ascii.{ascii}
 use Rattle.text.specs.Shape.{shape}
 use Rattle.text.proofs.Bools.{and_left, cond_yes, cond_no}
 use Rattle.calendar.specs.Day.{is_day}
 use Rattle.calendar.specs.Moments.{is_ending, when_of}
 use Rattle.calendar.specs.Places.{digits_at, date_places, time_places}
-use Rattle.calendar.specs.declared.moments.When.TheVariants.{At, Malformed}
 use Rattle.calendar.proofs.PlaceLaws.{marked, below, by_pattern, of_front}
 use Rattle.calendar.proofs.MomentLaws.{no_ending, not_written, written}
 use Rattle.calendar.proofs.moments.parse_moment.Goals as goal
@@ -51,9 +51,9 @@ unfolding when_of
 returns-then-is_day-is_time c =
     let right = sym (shapes c.args.s.now c.head.ensures c.rest.ensures c.is_written.ensures c.is_ending.ensures) ∙ c.if-not-is_written-is_ending.false in
     let day = c.day_written-day.ensures in
-    cond_yes Malformed
+    cond_yes None
     (written c.args.s.now right ∙ sym (λ i. (c.is_day.ensures ∙ ap is_day day) i && c.is_time.ensures i) ∙ c.if-is_day-is_time.true)
-    (λ i. At (record { day = day i; micro = c.micro_written-micro.ensures i }))
+    (λ i. Some (record { day = day i; micro = c.micro_written-micro.ensures i }))
 
 pub returns : goal.returns
 unfolding when_of
