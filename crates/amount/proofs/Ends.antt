@@ -9,7 +9,7 @@ use Rattle.text.specs.Ascii.{ascii}
 use Rattle.text.specs.Class.{all_of}
 use Rattle.text.specs.Number.{digit_of, numeral, number_of}
 use Rattle.text.specs.Word.{starts_with}
-use Rattle.amount.specs.declared.Signed.TheVariants.{Amount, Malformed}
+use Rattle.std.proofs.Common.{Some, None}
 use Rattle.amount.specs.Decimal.{point_at, whole, decimals, is_decimal, without_last_zeros, fewest_decimals, value_of}
 use Rattle.amount.specs.Signed.{behind_sign, is_signed, signed_value_of, signed_of, signed_kind}
 
@@ -17,7 +17,7 @@ pub signed_or_malformed : (f : ℕ) (s : List ℕ) → not (eqb (signed_kind (si
 unfolding signed_of
 signed_or_malformed f s = go (is_signed 18 f 19 s)
   where
-    go : (t : Bool) → not (eqb (signed_kind (cond t (Amount (signed_value_of s)) Malformed)) 0) ≡ t
+    go : (t : Bool) → not (eqb (signed_kind (cond t (Some (signed_value_of s)) None)) 0) ≡ t
     go true = refl
     go false = refl
 
@@ -27,15 +27,15 @@ unfolding all_of starts_with digit_of numeral number_of point_at whole decimals 
 half_more = refl
 
 -- zero has no sign and no places, however it is written
-pub minus_zero : signed_of 5 (ascii "-0.00") ≡ Amount (record { mantissa = pos 0; places = 0 })
+pub minus_zero : signed_of 5 (ascii "-0.00") ≡ Some (record { mantissa = pos 0; places = 0 })
 unfolding all_of starts_with digit_of numeral number_of point_at whole decimals is_decimal without_last_zeros fewest_decimals value_of behind_sign is_signed signed_value_of signed_of
 minus_zero = refl
 
 -- 18 digits are the most there are, with either sign
-pub highest : signed_of 5 (ascii "+999999999999999999") ≡ Amount (record { mantissa = pos 999999999999999999; places = 0 })
+pub highest : signed_of 5 (ascii "+999999999999999999") ≡ Some (record { mantissa = pos 999999999999999999; places = 0 })
 unfolding all_of starts_with digit_of numeral number_of point_at whole decimals is_decimal without_last_zeros fewest_decimals value_of behind_sign is_signed signed_value_of signed_of
 highest = refl
 
-pub lowest : signed_of 5 (ascii "-999999999999999999") ≡ Amount (record { mantissa = negsuc 999999999999999998; places = 0 })
+pub lowest : signed_of 5 (ascii "-999999999999999999") ≡ Some (record { mantissa = negsuc 999999999999999998; places = 0 })
 unfolding all_of starts_with digit_of numeral number_of point_at whole decimals is_decimal without_last_zeros fewest_decimals value_of behind_sign is_signed signed_value_of signed_of
 lowest = refl

@@ -15,8 +15,7 @@ use Rattle.text.specs.Class.{all_of, run_of}
 use Rattle.text.specs.Word.{same, starts_with}
 use Rattle.text.proofs.Bools.{and_left, and_right, or_cases, by_test}
 use Rattle.amount.specs.declared.Decimal.{Decimal}
-use Rattle.amount.specs.declared.Signed.{Signed}
-use Rattle.amount.specs.declared.Signed.TheVariants.{Amount, Malformed as NoAmount}
+use Rattle.std.proofs.Common.{Option, Some, None}
 use Rattle.amount.specs.declared.Price.{Price}
 use Rattle.amount.specs.declared.Price.TheVariants.{Pending, NotApplicable, Percent, Money, Yield, BasisPoints, Malformed as NoPrice}
 use Rattle.amount.specs.declared.Quantity.{Quantity}
@@ -115,9 +114,9 @@ pub signed_one_form : {s t : List ℕ} → InUse is_signed s → InUse is_signed
 signed_one_form u v = (equal_one (signed_fewest u) (signed_fewest v), one_equal (signed_fewest u) (signed_fewest v))
 
 -- what is asked of the decimal that an amount, a price, a quantity carries
-abbrev pub InSigned : (Decimal → Type 0) → Signed → Type 0
-InSigned P (Amount d) = P d
-InSigned P NoAmount = Unit {0}
+abbrev pub InSigned : (Decimal → Type 0) → Option Decimal → Type 0
+InSigned P (Some d) = P d
+InSigned P None = Unit {0}
 
 abbrev pub InPrice : (Decimal → Type 0) → Price → Type 0
 InPrice P Pending = Unit {0}
@@ -160,9 +159,9 @@ price_short s =
     (chosen (InPrice Short) (tagged (ascii "YLD:") 11 10 12 s) (λ e. tagged_short 11 10 12 (ascii "YLD:") s e (lit≤ tt) (lit≤ tt))
     (chosen (InPrice Short) (tagged (ascii "BP:") 18 17 19 s) (λ e. tagged_short 18 17 19 (ascii "BP:") s e (lit≤ tt) (lit≤ tt)) tt)))))
   where
-    money : (x : Signed) → InSigned Short x → InPrice Short (money_of x)
-    money (Amount d) p = p
-    money NoAmount p = tt
+    money : (x : Option Decimal) → InSigned Short x → InPrice Short (money_of x)
+    money (Some d) p = p
+    money None p = tt
 
 pub quantity_short : (s : List ℕ) → InQuantity Short (quantity_of s)
 unfolding quantity_of

@@ -1,18 +1,17 @@
 -- Cells 33 and 51: PNDG, NOAP, PC: D(11,10,19), MV: D(18,13,19), YLD: D(11,10,12), BP: D(18,17,19); MV may open with a sign.
-use Rattle.std.specs.Prelude.{ℕ, cond, List, drop}
+use Rattle.std.specs.Prelude.{ℕ, cond, List, drop, Option, Some, None}
 use Rattle.text.specs.Ascii.{ascii}
 use Rattle.text.specs.Word.{same, starts_with}
 use Rattle.amount.specs.declared.Price.{Price}
 use Rattle.amount.specs.declared.Price.TheVariants.{Pending, NotApplicable, Percent, Money, Yield, BasisPoints, Malformed}
 use Rattle.amount.specs.Decimal.{tagged, value_of}
-use Rattle.amount.specs.declared.Signed.{Signed}
-use Rattle.amount.specs.declared.Signed.TheVariants.{Amount, Malformed as NoAmount}
+use Rattle.amount.specs.declared.Decimal.{Decimal}
 use Rattle.amount.specs.Signed.{signed_of}
 
 -- a price in money is the signed amount behind MV:
-abbrev pub money_of : Signed → Price
-money_of (Amount d) = Money d
-money_of NoAmount = Malformed
+abbrev pub money_of : Option Decimal → Price
+money_of (Some d) = Money d
+money_of None = Malformed
 
 unfoldable pub price_of : List ℕ → Price
 price_of s =

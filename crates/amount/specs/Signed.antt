@@ -1,10 +1,8 @@
 -- An amount that may open with one + or -, which is not counted.
-use Rattle.std.specs.Prelude.{ℕ, neg_ℤ, Bool, cond, ◌||◌, List, drop}
+use Rattle.std.specs.Prelude.{ℕ, neg_ℤ, Bool, cond, ◌||◌, List, drop, Option, Some, None}
 use Rattle.text.specs.Ascii.{ascii}
 use Rattle.text.specs.Word.{starts_with}
 use Rattle.amount.specs.declared.Decimal.{Decimal}
-use Rattle.amount.specs.declared.Signed.{Signed}
-use Rattle.amount.specs.declared.Signed.TheVariants.{Amount, Malformed}
 use Rattle.amount.specs.Decimal.{is_decimal, value_of}
 
 unfoldable pub behind_sign : List ℕ → List ℕ
@@ -21,10 +19,10 @@ unfoldable pub signed_value_of : List ℕ → Decimal
 signed_value_of s = cond (starts_with (ascii "-") s) (negated (value_of (behind_sign s))) (value_of (behind_sign s))
 
 -- cell 38 with f = 5, and what follows MV: with f = 13: D(18, f, 19) behind the sign, with its value
-unfoldable pub signed_of : ℕ → List ℕ → Signed
-signed_of f s = cond (is_signed 18 f 19 s) (Amount (signed_value_of s)) Malformed
+unfoldable pub signed_of : ℕ → List ℕ → Option Decimal
+signed_of f s = cond (is_signed 18 f 19 s) (Some (signed_value_of s)) None
 
--- 2 is an amount, the one kind there is, as the kinds of prices and quantities are numbered from 2 on; 0 is malformed
-abbrev pub signed_kind : Signed → ℕ
-signed_kind (Amount d) = 2
-signed_kind Malformed = 0
+-- 2 is an amount, the one kind there is, as the kinds of prices and quantities are numbered from 2 on; 0 is none
+abbrev pub signed_kind : Option Decimal → ℕ
+signed_kind (Some d) = 2
+signed_kind None = 0

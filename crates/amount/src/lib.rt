@@ -18,13 +18,6 @@ pub struct Decimal {
     pub places: u8,
 }
 
-// What cell 38 holds, and what stands behind MV:.
-#[derive(Clone, Copy)]
-pub enum Signed {
-    Amount(Decimal),
-    Malformed,
-}
-
 #[derive(Clone, Copy)]
 pub enum Price {
     // PNDG
@@ -137,13 +130,13 @@ fn signed_value_of(s: &[u8]) -> Decimal
 }
 
 // D(18, f, 19) that may open with one + or -, which is not counted, read to its value: f is 5 for cell 38 and 13 behind MV:.
-pub fn parse_signed(s: &[u8], f: usize) -> Signed
+pub fn parse_signed(s: &[u8], f: usize) -> Option<Decimal>
     ensures { result ≡ signed_of f s.now }
 {
     if !is_decimal(behind_sign(s), 18, f, 19) {
-        return Signed::Malformed;
+        return None;
     }
-    Signed::Amount(signed_value_of(s))
+    Some(signed_value_of(s))
 }
 
 // A kind's word with its colon, and a decimal behind it.
@@ -156,12 +149,12 @@ fn tagged(s: &[u8], word: &[u8], n: usize, f: usize, m: usize) -> bool
     is_decimal(text::rest(s, word.len()), n, f, m)
 }
 
-fn money_of(signed: Signed) -> Price
+fn money_of(signed: Option<Decimal>) -> Price
     ensures { result ≡ money_of signed }
 {
     match signed {
-        Signed::Amount(d) => Price::Money(d),
-        Signed::Malformed => Price::Malformed,
+        Some(d) => Price::Money(d),
+        None => Price::Malformed,
     }
 }
 
@@ -216,13 +209,13 @@ pub fn parse_quantity(s: &[u8]) -> Quantity
     Quantity::Malformed
 }
 
-// The kinds of a signed amount, of a price and of a quantity, numbered from 2 on as the paper lists them; 0 where it is malformed.
-pub fn signed_kind(signed: Signed) -> u8
+// The kinds of a signed amount, of a price and of a quantity, numbered from 2 on as the paper lists them; 0 where there is none of its form.
+pub fn signed_kind(signed: Option<Decimal>) -> u8
     ensures { result ≡ signed_kind signed }
 {
     match signed {
-        Signed::Amount(_) => 2,
-        Signed::Malformed => 0,
+        Some(_) => 2,
+        None => 0,
     }
 }
 

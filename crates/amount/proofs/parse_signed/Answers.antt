@@ -3,7 +3,7 @@ use mathlib.Core.List.{List}
 use Prim.Native.Nat.{ℕ}
 use lib.Dec.{lit≤}
 use Rattle.text.proofs.Bools.{cond_yes, cond_no}
-use Rattle.amount.specs.declared.Signed.TheVariants.{Amount}
+use Rattle.std.proofs.Common.{Some}
 use Rattle.amount.specs.Decimal.{is_decimal}
 use Rattle.amount.specs.Signed.{behind_sign, is_signed, signed_of}
 use Rattle.amount.proofs.DecimalLaws.{few_signed}
@@ -23,4 +23,4 @@ signed_value_of-requires c = few_signed 18 c.args.f 19 c.args.s.now (sym (c.is_d
 
 pub returns : goal.returns
 unfolding signed_of
-returns c = cond_yes _ (sym (c.is_decimal.ensures ∙ told c.args.f c.args.s.now c.behind_sign.ensures) ∙ c.if-not-is_decimal.false) (ap Amount c.signed_value_of.ensures)
+returns c = cond_yes _ (sym (c.is_decimal.ensures ∙ told c.args.f c.args.s.now c.behind_sign.ensures) ∙ c.if-not-is_decimal.false) (ap Some c.signed_value_of.ensures)
