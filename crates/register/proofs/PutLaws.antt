@@ -2,6 +2,7 @@
 use mathlib.Core.Path.{◌≡◌, ◌∙◌, refl, sym, ap, subst}
 use mathlib.Core.Bool.{true, false, not, ◌&&◌}
 use mathlib.Core.List.{List, [], ◌∷◌, ◌++◌, append_assoc}
+use Rattle.std.proofs.Common.{Option, Some, None}
 use Prim.Native.Nat.{ℕ, zero, suc, ◌+◌, ◌*◌, ◌-◌, ◌≤◌, ◌<◌}
 use native.Mathlib.Nat.{suc-mul, zero-mul}
 use native.Mathlib.Numerals.{add-one}
@@ -17,8 +18,6 @@ use Rattle.register.specs.Frame.{width, place, version, day_width, used, capacit
 use Rattle.register.specs.Rows.{row_in, rows_in, rows_of, own_from, first_row}
 use Rattle.register.specs.Table.{put_row}
 use Rattle.register.specs.Written.{little_bytes, restated, appended, put, value_of, set_cancelled}
-use Rattle.register.specs.declared.rows.Found.{Found}
-use Rattle.register.specs.declared.rows.Found.TheVariants.{At, Nowhere}
 use Rattle.register.specs.declared.rows.Standing.TheVariants.{Cancelled}
 use Rattle.register.proofs.Stores.{take_sets, drop_sets_past, drop_sets_add, sets_front, drop_take}
 use Rattle.register.proofs.Words.{little_head, little_read}
@@ -72,7 +71,7 @@ place_rows n (suc k) (suc m) s pair value h l at =
 -- a row stored behind the used ones, of a pair that has none
 append_rows :
     (n m i : ℕ) (s pair value : List ℕ) → length pair ≡ 73 → length value ≡ 1 + n → suc m * width n ≤ length s
-    → own_from i (rows_in n m s) pair ≡ Nowhere
+    → own_from i (rows_in n m s) pair ≡ None
     → rows_in n (suc m) (sets s (m * width n) (pair ++ value)) ≡ put_row (rows_in n m s) pair value
 unfolding rows_in put_row own_from
 append_rows n zero i s pair value k h l none =
@@ -85,7 +84,7 @@ append_rows n (suc m) i s pair value k h l none =
     by_test
     (same pair (take 73 s))
     (λ t.
-    let z : At i ≡ Nowhere = rw t at none in
+    let z : Some i ≡ None = rw t at none in
     let y : ◌≡◌ {A = ℕ} 0 1 = cc in
     absurd (omega arith))
     (λ t.
@@ -152,41 +151,41 @@ module _ (register : List ℕ) where
       framed_kept register (sets register (place n k + 73) value) (place_head k value) (length-sets register (place n k + 73) value) f
       (rw (used_kept register (place n k + 73) value (omega arith)) f.fits)
 
-  pub put_length : (found : Found) (pair value : List ℕ) → length (put register found pair value) ≡ length register
+  pub put_length : (found : Option ℕ) (pair value : List ℕ) → length (put register found pair value) ≡ length register
   unfolding put restated appended
-  put_length (At k) pair value =
+  put_length (Some k) pair value =
       by_test
       (is_used register k)
       (λ t. rw t (length-sets register (place n k + 73) value))
       (λ t. rw t)
-  put_length Nowhere pair value = by_test (framed register && not (full register)) (λ t. rw t (grown_length pair value)) (λ t. rw t)
+  put_length None pair value = by_test (framed register && not (full register)) (λ t. rw t (grown_length pair value)) (λ t. rw t)
 
-  put_head : (found : Found) (pair value : List ℕ) → take 5 (put register found pair value) ≡ take 5 register
+  put_head : (found : Option ℕ) (pair value : List ℕ) → take 5 (put register found pair value) ≡ take 5 register
   unfolding put restated appended
-  put_head (At k) pair value = by_test (is_used register k) (λ t. rw t (place_head k value)) (λ t. rw t)
-  put_head Nowhere pair value = by_test (framed register && not (full register)) (λ t. rw t (grown_head pair value)) (λ t. rw t)
+  put_head (Some k) pair value = by_test (is_used register k) (λ t. rw t (place_head k value)) (λ t. rw t)
+  put_head None pair value = by_test (framed register && not (full register)) (λ t. rw t (grown_head pair value)) (λ t. rw t)
 
   -- a row more or a row anew changes neither the version nor how many rows fit nor that the register is framed
-  pub put_version : (found : Found) (pair value : List ℕ) → version (put register found pair value) ≡ version register
+  pub put_version : (found : Option ℕ) (pair value : List ℕ) → version (put register found pair value) ≡ version register
   put_version found pair value = version_kept register (put register found pair value) (put_head found pair value)
 
-  pub put_day : (found : Found) (pair value : List ℕ) → day_width (put register found pair value) ≡ n
+  pub put_day : (found : Option ℕ) (pair value : List ℕ) → day_width (put register found pair value) ≡ n
   put_day found pair value = day_kept register (put register found pair value) (put_head found pair value)
 
-  pub put_capacity : (found : Found) (pair value : List ℕ) → capacity (put register found pair value) ≡ capacity register
+  pub put_capacity : (found : Option ℕ) (pair value : List ℕ) → capacity (put register found pair value) ≡ capacity register
   put_capacity found pair value =
       capacity_kept register (put register found pair value) (put_head found pair value) (put_length found pair value)
 
-  pub put_framed : (found : Found) (pair value : List ℕ) → framed (put register found pair value) ≡ framed register
+  pub put_framed : (found : Option ℕ) (pair value : List ℕ) → framed (put register found pair value) ≡ framed register
   unfolding put restated appended is_used
-  put_framed (At k) pair value =
+  put_framed (Some k) pair value =
       by_test
       (is_used register k)
       (λ t.
       let f : framed register ≡ true = and_left (framed register) (ltb k (used register)) t in
       rw t (is_framed (place_framed (framed_is register f) k value) ∙ sym f))
       (λ t. rw t)
-  put_framed Nowhere pair value =
+  put_framed None pair value =
       by_test
       (framed register && not (full register))
       (λ t.
@@ -197,10 +196,10 @@ module _ (register : List ℕ) where
 
   module _ (pair value : List ℕ) (f : Framed register) (k : length pair ≡ 73) (h : length value ≡ 1 + n) where
     put_found :
-        (found : Found) → own_from 0 (rows_of register) pair ≡ found → (found ≡ Nowhere → full register ≡ false)
+        (found : Option ℕ) → own_from 0 (rows_of register) pair ≡ found → (found ≡ None → full register ≡ false)
         → rows_in n (used (put register found pair value)) (drop 9 (put register found pair value)) ≡ put_row (rows_of register) pair value
     unfolding put restated appended is_used
-    put_found Nowhere e room =
+    put_found None e room =
         let left : full register ≡ false = room refl in
         let bytes : List ℕ = sets register (place n (used register)) (pair ++ value) in
         let fits : suc (used register) * width n ≤ length (drop 9 register) =
@@ -212,7 +211,7 @@ module _ (register : List ℕ) where
         (rows_in n (suc (used register)))
         (drop_sets_past 9 bytes 5 (little_bytes 4 (used register + 1)) (lit≤ tt) ∙ drop_sets_add 9 register (used register * width n) (pair ++ value))
         ∙ append_rows n (used register) 0 (drop 9 register) pair value k h fits e)
-    put_found (At j) e room =
+    put_found (Some j) e room =
         let (i, number, at) = first_at 0 j (rows_of register) pair e in
         let z : i ≡ j = omega arith in
         let at_j : FirstAt pair (rows_of register) j = subst (λ (m : ℕ). FirstAt pair (rows_of register) m) z at in
@@ -228,7 +227,7 @@ module _ (register : List ℕ) where
   -- putting a pair where it was found: its row keeps the value, every other row stays; where it has none there is room
   pub put_rows :
       (pair value : List ℕ) → framed register ≡ true → length pair ≡ 73 → length value ≡ 1 + n
-      → (first_row register pair ≡ Nowhere → full register ≡ false)
+      → (first_row register pair ≡ None → full register ≡ false)
       → rows_of (put register (first_row register pair) pair value) ≡ put_row (rows_of register) pair value
   unfolding first_row
   put_rows pair value t k h room =
@@ -237,13 +236,13 @@ module _ (register : List ℕ) where
 
 -- cancelling a pair that was found puts its row
 pub cancelled_put :
-    (register pair : List ℕ) (found : Found) (day : ℕ) → (found ≡ Nowhere → ⊥)
+    (register pair : List ℕ) (found : Option ℕ) (day : ℕ) → (found ≡ None → ⊥)
     → set_cancelled register found day ≡ put register found pair (value_of register Cancelled day)
 unfolding set_cancelled put
-cancelled_put register pair Nowhere day h = absurd (h refl)
-cancelled_put register pair (At k) day h = refl
+cancelled_put register pair None day h = absurd (h refl)
+cancelled_put register pair (Some k) day h = refl
 
-pub cancelled_version : (register : List ℕ) (found : Found) (day : ℕ) → version (set_cancelled register found day) ≡ version register
+pub cancelled_version : (register : List ℕ) (found : Option ℕ) (day : ℕ) → version (set_cancelled register found day) ≡ version register
 unfolding set_cancelled put
-cancelled_version register (At k) day = put_version register (At k) [] (value_of register Cancelled day)
-cancelled_version register Nowhere day = refl
+cancelled_version register (Some k) day = put_version register (Some k) [] (value_of register Cancelled day)
+cancelled_version register None day = refl

@@ -3,7 +3,7 @@ use mathlib.Core.Logic.{◌⊎◌, inl, inr}
 use mathlib.Core.Path.{◌≡◌, ◌∙◌, refl, sym, ap, subst}
 use mathlib.Core.Bool.{Bool, true, false}
 use mathlib.Core.List.{List, [], ◌∷◌}
-use mathlib.Core.Option.{some}
+use Rattle.std.proofs.Common.{Option, Some, None}
 use Prim.Native.Nat.{ℕ, zero, suc, ◌+◌, ◌*◌, ◌-◌, ◌/◌, ◌≤◌, ◌<◌}
 use native.Mathlib.Nat.{suc-mul, zero-mul, add-zero, mul-le-mul_right, mul-div_cancel, lt_of_mul-lt-mul_right, le_of_mul-le-mul_right}
 use native.Mathlib.Numerals.{add-one}
@@ -19,9 +19,7 @@ use Rattle.text.proofs.Bools.{by_test, and_left, and_right}
 use Rattle.text.proofs.WordLaws.{begins_within}
 use Rattle.text.proofs.LoadLaws.{other_row, next_keeps}
 use Rattle.register.specs.Frame.{width, place, day_width, used, framed, is_used, row_width}
-use Rattle.register.specs.Rows.{Row, rows_in, rows_of, row_number, own_from, look, state_of, stands_as, first_row, standing, standing_at}
-use Rattle.register.specs.declared.rows.Found.{Found}
-use Rattle.register.specs.declared.rows.Found.TheVariants.{At, Nowhere}
+use Rattle.register.specs.Rows.{Row, rows_in, rows_of, own_from, look, state_of, stands_as, first_row, standing, standing_at}
 use Rattle.register.specs.declared.rows.Standing.TheVariants.{Absent, Live, Cancelled}
 use Rattle.register.proofs.Stores.{drop_take}
 use Rattle.register.proofs.Words.{starts_take}
@@ -39,41 +37,40 @@ FirstAt pair [] k = ⊥
 FirstAt pair (row ∷ rows) zero = same pair row.key ≡ true
 FirstAt pair (row ∷ rows) (suc k) = (same pair row.key ≡ false) × FirstAt pair rows k
 
-pub first_at : (i j : ℕ) (rows : List Row) (pair : List ℕ) → own_from i rows pair ≡ At j → (k : ℕ) × (j ≡ i + k) × FirstAt pair rows k
+pub first_at : (i j : ℕ) (rows : List Row) (pair : List ℕ) → own_from i rows pair ≡ Some j → (k : ℕ) × (j ≡ i + k) × FirstAt pair rows k
 unfolding own_from
 first_at i j [] pair h = let z : ◌≡◌ {A = ℕ} 0 1 = cc in absurd (omega arith)
 first_at i j (row ∷ rows) pair h =
     by_test
     (same pair row.key)
     (λ t.
-    let e : At i ≡ At j = rw t at h in
+    let e : Some i ≡ Some j = rw t at h in
     let z : i ≡ j = cc in
     (0, omega arith, t))
     (λ t.
     let (k, e, at) = first_at (i + 1) j rows pair (rw t at h) in
     (suc k, omega arith, (t, at)))
 
-pub at_first : (i k : ℕ) (rows : List Row) (pair : List ℕ) → FirstAt pair rows k → own_from i rows pair ≡ At (i + k)
+pub at_first : (i k : ℕ) (rows : List Row) (pair : List ℕ) → FirstAt pair rows k → own_from i rows pair ≡ Some (i + k)
 unfolding own_from
 at_first i k [] pair h = absurd h
 at_first i zero (row ∷ rows) pair h = rw (h, add-zero i)
 at_first i (suc k) (row ∷ rows) pair h =
     let e : i + 1 + k ≡ i + suc k = omega arith in
-    rw h.0 (at_first (i + 1) k rows pair h.1 ∙ ap At e)
+    rw h.0 (at_first (i + 1) k rows pair h.1 ∙ ap Some e)
 
 -- the number found is k exactly if row k is the pair's, and none before it
 module _ (register pair : List ℕ) (t : framed register ≡ true) (k : ℕ) where
-  pub number_first : row_number (first_row register pair) ≡ some k → FirstAt pair (rows_of register) k
+  pub number_first : first_row register pair ≡ Some k → FirstAt pair (rows_of register) k
   unfolding first_row
-  number_first h = go (own_from 0 (rows_of register) pair) refl (rw t at h)
-    where
-      go : (found : Found) → own_from 0 (rows_of register) pair ≡ found → row_number found ≡ some k → FirstAt pair (rows_of register) k
-      go (At j) e h = let z : j ≡ k = cc in let (i, same, there) = first_at 0 j (rows_of register) pair e in let l : k ≡ i = omega (arith, z, same) in rw l there
-      go Nowhere e h = let z : ◌≡◌ {A = ℕ} 0 1 = cc in absurd (omega arith)
+  number_first h =
+      let (i, same, there) = first_at 0 k (rows_of register) pair (rw t at h) in
+      let l : k ≡ i = omega (arith, same) in
+      rw l there
 
-  pub first_number : FirstAt pair (rows_of register) k → row_number (first_row register pair) ≡ some k
+  pub first_number : FirstAt pair (rows_of register) k → first_row register pair ≡ Some k
   unfolding first_row
-  first_number h = let e : 0 + k ≡ k = omega arith in rw t (ap row_number (at_first 0 k (rows_of register) pair h) ∙ ap some e)
+  first_number h = let e : 0 + k ≡ k = omega arith in rw t (at_first 0 k (rows_of register) pair h ∙ ap Some e)
 
 -- the first row of a pair is one of the rows, and what is kept of the pair stands there
 pub first_within : (n k m : ℕ) (s pair : List ℕ) → FirstAt pair (rows_in n m s) k → k < m
@@ -90,14 +87,14 @@ look_at n (suc k) (suc m) s pair h =
     let e : width n + (k * width n + 73) ≡ suc k * width n + 73 = omega (arith, suc-mul k (width n)) in
     rw h.0 (look_at n k m (drop (width n) s) pair h.1 ∙ ap (take (1 + n)) (drop-drop (k * width n + 73) (width n) s ∙ ap (λ j. drop j s) e))
 
-pub look_none : (i : ℕ) (rows : List Row) (pair : List ℕ) → own_from i rows pair ≡ Nowhere → look rows pair ≡ []
+pub look_none : (i : ℕ) (rows : List Row) (pair : List ℕ) → own_from i rows pair ≡ None → look rows pair ≡ []
 unfolding own_from look
 look_none i [] pair h = refl
 look_none i (row ∷ rows) pair h =
     by_test
     (same pair row.key)
     (λ t.
-    let e : At i ≡ Nowhere = rw t at h in
+    let e : Some i ≡ None = rw t at h in
     let z : ◌≡◌ {A = ℕ} 0 1 = cc in
     absurd (omega arith))
     (λ t. rw t (look_none (i + 1) rows pair (rw t at h)))
@@ -127,11 +124,11 @@ module _ (register pair : List ℕ) (f : Framed register) where
       ∙ ap state_of (get_or-drop (place n k + 73) register 0 0 ∙ ap (λ j. get_or register j 0) (add-zero (place n k + 73))))
 
   stands_found :
-      (found : Found) → own_from 0 (rows_of register) pair ≡ found
+      (found : Option ℕ) → own_from 0 (rows_of register) pair ≡ found
       → standing_at register found ≡ stands_as (look (rows_of register) pair)
   unfolding standing_at is_used
-  stands_found Nowhere e = sym (ap stands_as (look_none 0 (rows_of register) pair e))
-  stands_found (At j) e =
+  stands_found None e = sym (ap stands_as (look_none 0 (rows_of register) pair e))
+  stands_found (Some j) e =
       let (k, number, at) = first_at 0 j (rows_of register) pair e in
       let z : k ≡ j = omega arith in
       let at_j : FirstAt pair (rows_of register) j = subst (λ (m : ℕ). FirstAt pair (rows_of register) m) z at in
@@ -226,12 +223,12 @@ module _ {w : ℕ} {register pair rows : List ℕ} {at : ℕ} (so_far : SearchSo
     one_row : used register - so_far.row ≡ suc (used register - (so_far.row + 1))
     one_row = omega (arith, one_used)
 
-    pub search_hit : starts_with pair (drop at rows) ≡ true → At ((at - 9) / w) ≡ first_row register pair
+    pub search_hit : starts_with pair (drop at rows) ≡ true → Some ((at - 9) / w) ≡ first_row register pair
     unfolding first_row own_from rows_in
     search_hit e =
         let back : at - 9 ≡ so_far.row * size = omega (arith, so_far.place_is) in
         let number : (at - 9) / w ≡ so_far.row = rw (so_far.walks, back) (mul-div_cancel so_far.row (omega arith)) in
-        rw so_far.framed_one (ap At number ∙ sym (so_far.left ∙ rw (one_row, compared true e)))
+        rw so_far.framed_one (ap Some number ∙ sym (so_far.left ∙ rw (one_row, compared true e)))
 
     pub search_on : starts_with pair (drop at rows) ≡ false → SearchSoFar w register pair rows (at + w)
     unfolding own_from rows_in
@@ -248,7 +245,7 @@ module _ {w : ℕ} {register pair rows : List ℕ} {at : ℕ} (so_far : SearchSo
           left = so_far.left ∙ rw (one_row, compared false e, drop-drop size at register, so_far.walks);
         }
 
-  pub search_end : length rows ≤ at → Nowhere ≡ first_row register pair
+  pub search_end : length rows ≤ at → None ≡ first_row register pair
   unfolding first_row own_from rows_in
   search_end h =
       let behind : used register * size ≤ so_far.row * size = omega (arith, so_far.place_is, rows_end) in
@@ -269,7 +266,7 @@ search_next {w} {register} {pair} {rows} {from} so_far {place} rowed short {aske
         search_on here (omega (arith, so_far.walks)) (other_row place 8 pair rows at (omega (arith, so_far.long)) asks e)
 
 -- a register that is not framed holds no pair, and neither does a row that is not used
-pub first_unframed : (register pair : List ℕ) → framed register ≡ false → Nowhere ≡ first_row register pair
+pub first_unframed : (register pair : List ℕ) → framed register ≡ false → None ≡ first_row register pair
 unfolding first_row
 first_unframed register pair e = rw e
 
@@ -281,15 +278,15 @@ used_row w register k told e =
     row_at w register k told t (omega (arith, (framed_is register t).fits))
 
 module _ (register : List ℕ) (k : ℕ) where
-  pub stands_unused : is_used register k ≡ false → Absent ≡ standing_at register (At k)
+  pub stands_unused : is_used register k ≡ false → Absent ≡ standing_at register (Some k)
   unfolding standing_at
   stands_unused e = rw e
 
   module _ (e : is_used register k ≡ true) {state : ℕ} (read : state ≡ get_or register (place (day_width register) k + 73) 0) where
-    pub stands_live : state ≡ 1 → Live ≡ standing_at register (At k)
+    pub stands_live : state ≡ 1 → Live ≡ standing_at register (Some k)
     unfolding standing_at
     stands_live h = rw (e, ← read, h)
 
-    pub stands_cancelled : (state ≡ 1 → ⊥) → Cancelled ≡ standing_at register (At k)
+    pub stands_cancelled : (state ≡ 1 → ⊥) → Cancelled ≡ standing_at register (Some k)
     unfolding standing_at
     stands_cancelled h = rw (e, ← read, ne_eqb state 1 h)

@@ -2,6 +2,7 @@
 use mathlib.Core.Path.{◌≡◌, ◌∙◌, refl, sym, ap}
 use mathlib.Core.Bool.{true, false, cond, not, ◌&&◌}
 use mathlib.Core.List.{List, [], ◌∷◌}
+use Rattle.std.proofs.Common.{Some, None}
 use Prim.Native.Nat.{ℕ, suc, ◌+◌}
 use native.Mathlib.Omega.{arith}
 use lib.ListN.{length}
@@ -9,7 +10,6 @@ use Rattle.text.specs.Word.{same}
 use Rattle.text.proofs.Bools.{by_test, or_left, or_right}
 use Rattle.register.specs.Rows.{Row, own_from, look}
 use Rattle.register.specs.Table.{holds, rows_with, put_row}
-use Rattle.register.specs.declared.rows.Found.TheVariants.{At, Nowhere}
 use Rattle.register.proofs.Words.{same_true}
 
 -- a pair that another's bytes are not is not where that one is
@@ -55,19 +55,19 @@ length_put (row ∷ rows) pair value =
     (λ t. rw t (ap suc (length_put rows pair value) ∙ omega arith))
 
 -- a pair is found nowhere exactly if no row is its own
-pub found_nowhere : (i : ℕ) (rows : List Row) (pair : List ℕ) → own_from i rows pair ≡ Nowhere → holds rows pair ≡ false
+pub found_nowhere : (i : ℕ) (rows : List Row) (pair : List ℕ) → own_from i rows pair ≡ None → holds rows pair ≡ false
 unfolding own_from holds
 found_nowhere i [] pair h = refl
 found_nowhere i (row ∷ rows) pair h =
     by_test
     (same pair row.key)
     (λ t.
-    let e : At i ≡ Nowhere = rw t at h in
+    let e : Some i ≡ None = rw t at h in
     let z : ◌≡◌ {A = ℕ} 0 1 = cc in
     absurd (omega arith))
     (λ t. rw t (found_nowhere (i + 1) rows pair (rw t at h)))
 
-pub nowhere_found : (i : ℕ) (rows : List Row) (pair : List ℕ) → holds rows pair ≡ false → own_from i rows pair ≡ Nowhere
+pub nowhere_found : (i : ℕ) (rows : List Row) (pair : List ℕ) → holds rows pair ≡ false → own_from i rows pair ≡ None
 unfolding own_from holds
 nowhere_found i [] pair h = refl
 nowhere_found i (row ∷ rows) pair h =

@@ -1,11 +1,8 @@
 -- A register as rows, and a pair among them.
-use Rattle.std.specs.Prelude.{ℕ, zero, suc, ◌+◌, cond, List, [], ◌∷◌, eqb, take, drop, get_or}
-use Rattle.std.proofs.Math.Option.{Option, none, some}
+use Rattle.std.specs.Prelude.{ℕ, zero, suc, ◌+◌, cond, List, [], ◌∷◌, Option, None, Some, eqb, take, drop, get_or}
 use Rattle.text.specs.Word.{same}
 use Rattle.text.specs.Number.{little_endian}
 use Rattle.register.specs.Frame.{width, place, day_width, used, framed, is_used}
-use Rattle.register.specs.declared.rows.Found.{Found}
-use Rattle.register.specs.declared.rows.Found.TheVariants.{At, Nowhere}
 use Rattle.register.specs.declared.rows.Standing.{Standing}
 use Rattle.register.specs.declared.rows.Standing.TheVariants.{Absent, Live, Cancelled}
 
@@ -27,15 +24,10 @@ rows_in n (suc k) s = row_in n s ∷ rows_in n k (drop (width n) s)
 abbrev pub rows_of : List ℕ → List Row
 rows_of register = rows_in (day_width register) (used register) (drop 9 register)
 
--- the number of the row that was found, counted from 0; none where there is no such row
-abbrev pub row_number : Found → Option ℕ
-row_number (At k) = some k
-row_number Nowhere = none
-
--- the first row that is the pair's, where the first of the rows has number i
-unfoldable pub own_from : ℕ → List Row → List ℕ → Found
-own_from i [] pair = Nowhere
-own_from i (row ∷ rows) pair = cond (same pair row.key) (At i) (own_from (i + 1) rows pair)
+-- the number of the first row that is the pair's, where the first of the rows has number i; none where there is no such row
+unfoldable pub own_from : ℕ → List Row → List ℕ → Option ℕ
+own_from i [] pair = None
+own_from i (row ∷ rows) pair = cond (same pair row.key) (Some i) (own_from (i + 1) rows pair)
 
 -- what the first row that is the pair's keeps of it; nothing where there is none
 unfoldable pub look : List Row → List ℕ → List ℕ
@@ -57,8 +49,8 @@ stands_as [] = Absent
 stands_as (state ∷ more) = state_of state
 
 -- a register that is not framed holds no pair
-unfoldable pub first_row : List ℕ → List ℕ → Found
-first_row register pair = cond (framed register) (own_from 0 (rows_of register) pair) Nowhere
+unfoldable pub first_row : List ℕ → List ℕ → Option ℕ
+first_row register pair = cond (framed register) (own_from 0 (rows_of register) pair) None
 
 unfoldable pub standing : List ℕ → List ℕ → Standing
 standing register pair = cond (framed register) (stands_as (look (rows_of register) pair)) Absent
@@ -67,11 +59,7 @@ standing register pair = cond (framed register) (stands_as (look (rows_of regist
 unfoldable pub day_of : List ℕ → List ℕ → ℕ
 day_of register pair = little_endian (day_width register) (drop 1 (look (rows_of register) pair))
 
--- by the state of the used row of that number
-abbrev pub standing_in : List ℕ → Option ℕ → Standing
-standing_in register none = Absent
-standing_in register (some k) = cond (is_used register k) (state_of (get_or register (place (day_width register) k + 73) 0)) Absent
-
--- by the row where it was found
-unfoldable pub standing_at : List ℕ → Found → Standing
-standing_at register found = standing_in register (row_number found)
+-- by the state of the used row of that number, where it was found
+unfoldable pub standing_at : List ℕ → Option ℕ → Standing
+standing_at register None = Absent
+standing_at register (Some k) = cond (is_used register k) (state_of (get_or register (place (day_width register) k + 73) 0)) Absent

@@ -14,5 +14,5 @@ mod writes;
 pub use conversion::convert;
 pub use frame::{full, row_width, used};
 pub use pairs::pair_bytes;
-pub use rows::{Found, Standing, find, standing_at, standing_of};
+pub use rows::{Standing, find, standing_at, standing_of};
 pub use writes::{set_cancelled, set_live};

@@ -1,5 +1,5 @@
 // Where a pair stands in a register, and how.
-ghost use Rattle.std.specs.Prelude.{◌≡◌, ◌⊎◌, ◌+◌, ◌≤◌, length};
+ghost use Rattle.std.specs.Prelude.{◌≡◌, ◌⊎◌, ◌+◌, ◌≤◌, length, Some};
 ghost use Rattle.text.specs.Stride.{Rowed, next_row};
 ghost use Rattle.register.specs.Frame.{row_width};
 ghost use Rattle.register.specs.Rows.{first_row, standing, standing_at};
@@ -7,14 +7,7 @@ ghost use Rattle.register.specs.Rows.{first_row, standing, standing_at};
 use crate::frame::{is_used, row_width, used};
 use text::{begins_with, byte_at, head, next_row, rest, word};
 
-#[derive(Clone, Copy)]
-pub enum Found {
-    // in the used row of that number, counted from 0
-    At(usize),
-    Nowhere,
-}
-
-#[derive(Clone, Copy)]
+#[derive(Clone, Copy, PartialEq, Eq)]
 pub enum Standing {
     Absent,
     Live,
@@ -48,13 +41,13 @@ fn next_with(rows: &[u8], from: usize, width: usize, place: usize, asked: u64) -
     next_row(rows, from, 74, place, 8, asked)
 }
 
-// The first used row whose first 73 bytes are the pair's.
-pub fn find(register: &[u8], width: usize, pair: &[u8; 73]) -> Found
+// The number of the first used row whose first 73 bytes are the pair's, counted from 0.
+pub fn find(register: &[u8], width: usize, pair: &[u8; 73]) -> Option<usize>
     requires { width ≡ row_width register.now }
     ensures { result ≡ first_row register.now pair.now }
 {
     if width == 0 {
-        return Found::Nowhere;
+        return None;
     }
     let rows = head(register, 9 + used(register) as usize * width);
     let whole = &pair[..];
@@ -63,16 +56,16 @@ pub fn find(register: &[u8], width: usize, pair: &[u8; 73]) -> Found
     let mut at = 9;
     while at < rows.len() {
         if begins_with(rest(rows, at), whole) {
-            return Found::At((at - 9) / width);
+            return Some((at - 9) / width);
         }
         at = next_with(rows, at + width, width, place, asked);
     }
-    Found::Nowhere
+    None
 }
 
 fn standing_in(register: &[u8], width: usize, row: usize) -> Standing
     requires { width ≡ row_width register.now }
-    ensures { result ≡ standing_at register.now (Found.At row) }
+    ensures { result ≡ standing_at register.now (Some row) }
 {
     if !is_used(register, width, row) {
         return Standing::Absent;
@@ -84,13 +77,13 @@ fn standing_in(register: &[u8], width: usize, row: usize) -> Standing
 }
 
 // How a pair stands whose place is known already: no row but that one is read.
-pub fn standing_at(register: &[u8], width: usize, found: Found) -> Standing
+pub fn standing_at(register: &[u8], width: usize, found: Option<usize>) -> Standing
     requires { width ≡ row_width register.now }
     ensures { result ≡ standing_at register.now found }
 {
     match found {
-        Found::At(row) => standing_in(register, width, row),
-        Found::Nowhere => Standing::Absent,
+        Some(row) => standing_in(register, width, row),
+        None => Standing::Absent,
     }
 }
 

@@ -6,7 +6,6 @@ ghost use Rattle.register.specs.Written.{little_bytes, restated, appended, put, 
 
 use crate::frame::{full, is_used, used};
 use crate::pairs::copy_in;
-use crate::rows::Found;
 
 pub fn write_le32(bytes: &mut [u8], at: usize, number: u32)
     requires { at + 4 ≤ length bytes.old }
@@ -57,18 +56,25 @@ fn append(register: &mut [u8], width: usize, pair: &[u8; 73], state: u8, day: u3
 }
 
 // Writes the pair's value, in the row where it was found, else in the next one.
-fn put(register: &mut [u8], width: usize, found: Found, pair: &[u8; 73], state: u8, day: u32)
+fn put(
+    register: &mut [u8],
+    width: usize,
+    found: Option<usize>,
+    pair: &[u8; 73],
+    state: u8,
+    day: u32,
+)
     requires { width ≡ row_width register.old }
     ensures { register.new ≡ put register.old found pair.now (state ∷ little_bytes (day_width register.old) day) }
 {
     match found {
-        Found::At(row) => restate(register, width, row, state, day),
-        Found::Nowhere => append(register, width, pair, state, day),
+        Some(row) => restate(register, width, row, state, day),
+        None => append(register, width, pair, state, day),
     }
 }
 
 // The pair, found there, is live from that day on.
-pub fn set_live(register: &mut [u8], width: usize, found: Found, pair: &[u8; 73], day: u32)
+pub fn set_live(register: &mut [u8], width: usize, found: Option<usize>, pair: &[u8; 73], day: u32)
     requires { width ≡ row_width register.old }
     ensures { register.new ≡ set_live register.old found pair.now day }
 {
@@ -76,12 +82,12 @@ pub fn set_live(register: &mut [u8], width: usize, found: Found, pair: &[u8; 73]
 }
 
 // The pair that was found there is cancelled from that day on.
-pub fn set_cancelled(register: &mut [u8], width: usize, found: Found, day: u32)
+pub fn set_cancelled(register: &mut [u8], width: usize, found: Option<usize>, day: u32)
     requires { width ≡ row_width register.old }
     ensures { register.new ≡ set_cancelled register.old found day }
 {
     match found {
-        Found::At(row) => restate(register, width, row, 2, day),
-        Found::Nowhere => {}
+        Some(row) => restate(register, width, row, 2, day),
+        None => {}
     }
 }

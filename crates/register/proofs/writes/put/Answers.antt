@@ -1,10 +1,10 @@
 use Rattle.register.specs.Written.{put}
 use Rattle.register.proofs.writes.put.Goals as goal
 
-pub returns-in-At : goal.returns-in-At
+pub returns-in-Some : goal.returns-in-Some
 unfolding put
-returns-in-At c = rw c.in-At.is c.restate.ensures
+returns-in-Some c = rw c.in-Some.is c.restate.ensures
 
-pub returns-in-Nowhere : goal.returns-in-Nowhere
+pub returns-in-None : goal.returns-in-None
 unfolding put
-returns-in-Nowhere c = rw c.in-Nowhere.is c.append.ensures
+returns-in-None c = rw c.in-None.is c.append.ensures

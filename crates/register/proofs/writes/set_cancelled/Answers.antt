@@ -1,10 +1,10 @@
 use Rattle.register.specs.Written.{set_cancelled}
 use Rattle.register.proofs.writes.set_cancelled.Goals as goal
 
-pub returns-in-At : goal.returns-in-At
+pub returns-in-Some : goal.returns-in-Some
 unfolding set_cancelled
-returns-in-At c = rw c.in-At.is c.restate.ensures
+returns-in-Some c = rw c.in-Some.is c.restate.ensures
 
-pub returns-in-Nowhere : goal.returns-in-Nowhere
+pub returns-in-None : goal.returns-in-None
 unfolding set_cancelled
-returns-in-Nowhere c = rw c.in-Nowhere.is
+returns-in-None c = rw c.in-None.is
