@@ -1,12 +1,12 @@
 -- What is found of a cell as a formula, and groups of flags laid one behind the other.
 use mathlib.Core.Path.{◌≡◌, refl, sym}
 use mathlib.Core.Bool.{Bool, true, false, not, cond, ◌&&◌, ◌||◌}
-use mathlib.Core.List.{List, map}
+use mathlib.Core.List.{List, ◌++◌, map}
 use Prim.Native.Nat.{ℕ, suc, ◌+◌, ◌<◌}
 use native.Mathlib.Numerals.{add-one}
 use native.Mathlib.Omega.{arith}
 use lib.ListN.{length, get_or, drop, set, replicate}
-use lib.Seq.{drop-cons, sets}
+use borrow.Rule.Slice.PartMut.{put_mid}
 use Rattle.text.specs.Number.{count_from}
 use Rattle.cells.specs.Cells.{cell}
 use Rattle.forms.specs.declared.findings.Status.{Status}
@@ -25,20 +25,13 @@ pub and_cond : (blank bad : Bool) → not blank && bad ≡ cond blank false bad
 and_cond true bad = refl
 and_cond false bad = refl
 
--- one flag more of a group is in place
-pub set_on : (flags : List Bool) (k : ℕ) (group : List Bool) (i : ℕ) → i < length group
-    → sets flags (k + i) (drop i group) ≡ sets (set flags (k + i) (get_or group i false)) (k + (i + 1)) (drop (i + 1) group)
-set_on flags k group i h =
-    let e : k + (i + 1) ≡ suc (k + i) = omega arith in
-    rw (e, add-one, drop-cons group i false h)
-
 -- the findings of a line whose status is known
 pub by_status : (line : List ℕ) (status : Status) → status_of (cell line 1) ≡ status → map (λ f. form_finding status (cell line 47) f (cell line f)) (count_from 1 65) ≡ form_findings line
 unfolding form_findings
 by_status line status e = sym (λ i. map (λ f. form_finding (e i) (cell line 47) f (cell line f)) (count_from 1 65))
 
 pub all_new : (line : List ℕ) → status_of (cell line 1) ≡ New
-    → sets (sets (sets (sets (sets (replicate 65 false) 0 (new_forms line 1)) 13 (new_forms line 14)) 26 (new_forms line 27)) 39 (new_forms line 40)) 52 (new_forms line 53)
+    → put_mid 52 13 (put_mid 39 13 (put_mid 26 13 (put_mid 13 13 (new_forms line 1 ++ replicate 52 false) (new_forms line 14)) (new_forms line 27)) (new_forms line 40)) (new_forms line 53)
     ≡ form_findings line
 all_new line e = by_status line New e
 

@@ -1,5 +1,7 @@
 -- Each public function's contract determines its answer.
-use Rattle.text.proofs.Determined.{Determined, same_both}
+use Rattle.std.specs.Prelude.{ℕ, List}
+use Rattle.forms.specs.declared.read.Read.{Read}
+use Rattle.text.proofs.Determined.{Seen, Determined, same_both}
 use Rattle.forms.proofs.read.read_cells.Kinds as read_cells_kinds
 use Rattle.forms.proofs.read.read_cells.Reads as read_cells_reads
 use Rattle.forms.proofs.new_cells.new_findings.Kinds as new_findings_kinds
@@ -20,8 +22,8 @@ form_findings_determined κs a x y s t = same_both
 pub other_findings_determined : Determined other_findings_kinds.ps other_findings_kinds.r other_findings_reads.Post
 other_findings_determined κs a x y s t = same_both
 
-pub read_cells_determined : Determined read_cells_kinds.ps read_cells_kinds.r read_cells_reads.Post
-read_cells_determined κs a x y s t = same_both
+pub read_cells_determined : Seen read_cells_kinds.ps read_cells_kinds.r {B = λ κs. List ℕ × Read} (λ κs x. (x.split.now.line.now, x.read)) read_cells_reads.Post
+read_cells_determined κs a x y s t p q = λ i. (same_both p.0 q.0 i, same_both p.1 q.1 i)
 
 pub new_findings_determined : Determined new_findings_kinds.ps new_findings_kinds.r new_findings_reads.Post
 new_findings_determined κs a x y s t = same_both

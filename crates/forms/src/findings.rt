@@ -1,6 +1,5 @@
 // The findings 1001 to 1065 of a line.
 ghost use Rattle.std.specs.Prelude.{◌≡◌, false};
-ghost use Rattle.cells.specs.Split.{Tabled};
 ghost use Rattle.text.specs.Word.{same};
 ghost use Rattle.cells.specs.Cells.{cell};
 ghost use Rattle.forms.specs.Forms.{status_word};
@@ -9,10 +8,11 @@ ghost use Rattle.forms.specs.Findings.{status_of, form_findings};
 use crate::meanings::is_status;
 use crate::new_cells::new_findings;
 use crate::read::read_cells;
+use cells::SplitLine;
 use text::Class;
 
 // What cell 1 says of a line.
-#[derive(Clone, Copy)]
+#[derive(Clone, Copy, PartialEq, Eq)]
 pub enum Status {
     // NEW
     New,
@@ -21,6 +21,7 @@ pub enum Status {
     Neither,
 }
 
+#[tactic(auto, unfolding(crate::specs::Findings::status_of))]
 pub fn status_of(s: &[u8]) -> Status
     ensures { result ≡ status_of s.now }
 {
@@ -34,18 +35,14 @@ pub fn status_of(s: &[u8]) -> Status
 }
 
 // Of a CXL only the cells that it needs are read: 1, 2, 4 and 6.
-fn cancellation_findings<'a, 't>(
-    line: &'a [u8],
-    starts: &'t [usize; 65],
-    ends: &'t [usize; 65],
-) -> [bool; 65]
-    requires { Tabled line.now starts.now ends.now × (status_of (cell line.now 1) ≡ Status.Cancellation) }
-    ensures { result ≡ form_findings line.now }
+fn cancellation_findings(split: &SplitLine) -> [bool; 65]
+    requires { status_of (cell split.now.line.now 1) ≡ Status.Cancellation }
+    ensures { result ≡ form_findings split.now.line.now }
 {
-    let c1 = cells::cell(line, starts, ends, 1);
-    let c2 = cells::cell(line, starts, ends, 2);
-    let c4 = cells::cell(line, starts, ends, 4);
-    let c6 = cells::cell(line, starts, ends, 6);
+    let c1 = split.cell(1);
+    let c2 = split.cell(2);
+    let c4 = split.cell(4);
+    let c6 = split.cell(6);
     let mut flags = [false; 65];
     flags[0] = (c1.len() == 0) | !is_status(c1);
     flags[1] = (c2.len() == 0) | !text::run_of(c2, Class::CapitalDigit, 1, 52);
@@ -55,16 +52,12 @@ fn cancellation_findings<'a, 't>(
 }
 
 // Of a line that is not NEW. Where it is not CXL either, the one finding is 1001.
-pub fn other_findings<'a, 't>(
-    line: &'a [u8],
-    starts: &'t [usize; 65],
-    ends: &'t [usize; 65],
-) -> [bool; 65]
-    requires { Tabled line.now starts.now ends.now × (same (status_word Status.New) (cell line.now 1) ≡ false) }
-    ensures { result ≡ form_findings line.now }
+pub fn other_findings(split: &SplitLine) -> [bool; 65]
+    requires { same (status_word Status.New) (cell split.now.line.now 1) ≡ false }
+    ensures { result ≡ form_findings split.now.line.now }
 {
-    if text::same(cells::cell(line, starts, ends, 1), b"CXL") {
-        return cancellation_findings(line, starts, ends);
+    if text::same(split.cell(1), b"CXL") {
+        return cancellation_findings(split);
     }
     let mut flags = [false; 65];
     flags[0] = true;
@@ -72,16 +65,11 @@ pub fn other_findings<'a, 't>(
 }
 
 // The 65 flags of a line: flag f - 1 is finding 1000 + f.
-pub fn form_findings<'a, 't>(
-    line: &'a [u8],
-    starts: &'t [usize; 65],
-    ends: &'t [usize; 65],
-) -> [bool; 65]
-    requires { Tabled line.now starts.now ends.now }
-    ensures { result ≡ form_findings line.now }
+pub fn form_findings(split: &SplitLine) -> [bool; 65]
+    ensures { result ≡ form_findings split.now.line.now }
 {
-    if text::same(cells::cell(line, starts, ends, 1), b"NEW") {
-        return new_findings(line, starts, ends, read_cells(line, starts, ends));
+    if text::same(split.cell(1), b"NEW") {
+        return new_findings(&read_cells(split));
     }
-    other_findings(line, starts, ends)
+    other_findings(split)
 }

@@ -9,5 +9,5 @@ mod tables;
 
 pub use findings::{Status, form_findings, other_findings, status_of};
 pub use new_cells::new_findings;
-pub use read::{Read, read_cells};
+pub use read::{Read, ReadLine, read_cells};
 pub use tables::Form;

@@ -7,24 +7,26 @@ use crate::tables::Form;
 use baskets::Kind;
 use text::Class;
 
+#[tactic(auto, unfolding(crate::specs::Forms::holds))]
 pub fn is_status(s: &[u8]) -> bool
     ensures { result ≡ holds Form.ReportStatus s.now }
 {
     text::same(s, b"NEW") | text::same(s, b"CXL")
 }
 
+#[tactic(auto, unfolding(crate::specs::Forms::holds))]
 pub fn is_truth(s: &[u8]) -> bool
     ensures { result ≡ holds Form.Truth s.now }
 {
     text::same(s, b"TRUE") | text::same(s, b"FALSE")
 }
 
+#[tactic(auto, unfolding(crate::specs::Forms::holds))]
 fn terms_of_kind(s: &[u8], kind: Kind) -> bool
     ensures { result ≡ holds (terms_of_kind kind) s.now }
 {
     match kind {
-        Kind::Swap => baskets::terms_fit(s, kind),
-        Kind::Other => baskets::terms_fit(s, kind),
+        Kind::Swap | Kind::Other => baskets::terms_fit(s, kind),
         Kind::Malformed => text::run_of(s, Class::Printable, 1, 400),
     }
 }
@@ -38,6 +40,7 @@ pub fn is_terms(s: &[u8], underlying: &[u8], kind: Kind) -> bool
 }
 
 // Three capitals behind FX: or INTRST:.
+#[tactic(auto, unfolding(crate::specs::Forms::holds))]
 pub fn is_second_currency(s: &[u8]) -> bool
     ensures { result ≡ holds Form.SecondCurrency s.now }
 {

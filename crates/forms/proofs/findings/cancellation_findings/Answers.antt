@@ -19,4 +19,4 @@ returns c = (λ i. set (set (set (set (replicate 65 false)
     1 (eqb (length (c.cell-c2.ensures i)) 0 || not ((c.run_of.ensures ∙ ap (run_of CapitalDigit 1 52) c.cell-c2.ensures) i)))
     3 (eqb (length (c.cell-c4.ensures i)) 0 || not ((c.lei_shaped.ensures ∙ ap lei_shaped c.cell-c4.ensures) i)))
     5 (eqb (length (c.cell-c6.ensures i)) 0 || not ((c.lei_shaped-2.ensures ∙ ap lei_shaped c.cell-c6.ensures) i)))
-    ∙ by_status _ Cancellation c.requires.1
+    ∙ by_status _ Cancellation c.requires

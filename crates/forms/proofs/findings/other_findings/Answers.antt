@@ -8,8 +8,8 @@ use Rattle.forms.proofs.ReadLaws.{by_status}
 use Rattle.forms.proofs.findings.other_findings.Goals as goal
 
 pub cancellation_findings-requires : goal.cancellation_findings-requires
-cancellation_findings-requires c = (c.requires.0, cxl_status _ c.requires.1 (sym (c.same.ensures ∙ ap (same (status_word Cancellation)) c.cell.ensures) ∙ c.if-same.true))
+cancellation_findings-requires c = cxl_status _ c.requires (sym (c.same.ensures ∙ ap (same (status_word Cancellation)) c.cell.ensures) ∙ c.if-same.true)
 
 pub returns : goal.returns
 unfolding form_finding
-returns c = by_status _ Neither (neither_status _ c.requires.1 (sym (c.same.ensures ∙ ap (same (status_word Cancellation)) c.cell.ensures) ∙ c.if-same.false))
+returns c = by_status _ Neither (neither_status _ c.requires (sym (c.same.ensures ∙ ap (same (status_word Cancellation)) c.cell.ensures) ∙ c.if-same.false))

@@ -13,21 +13,9 @@ use Rattle.forms.specs.Findings.{form_finding}
 use Rattle.forms.specs.Read.{read_of}
 use Rattle.forms.proofs.new_cells.closing.Goals as goal
 
-pub cell-c62-requires : goal.cell-c62-requires
-cell-c62-requires c = c.requires.0
-
-pub cell-c63-requires : goal.cell-c63-requires
-cell-c63-requires c = c.requires.0
-
-pub cell-c64-requires : goal.cell-c64-requires
-cell-c64-requires c = c.requires.0
-
-pub cell-c65-requires : goal.cell-c65-requires
-cell-c65-requires c = c.requires.0
-
 pub returns : goal.returns
 unfolding form_finding form_of holds read_of
-returns c = let read = c.requires.1 in
+returns c = let read = c.args.line.now.told in
     λ k. (c.optional.ensures ∙ (λ i. cond (blank (c.cell-c53.ensures i)) false (not ((c.one_of.ensures ∙ ap (word "EUROAMERASIABERMOTHR") c.cell-c53.ensures) i)))) k
     ∷ (c.optional-2.ensures ∙ (λ i. cond (blank (c.cell-c54.ensures i)) false (not ((c.is_date.ensures ∙ ap (λ (r : Read). is_date r.date54) read) i)))) k
     ∷ (c.optional-3.ensures ∙ (λ i. cond (blank (c.cell-c55.ensures i)) false (not ((c.is_date-2.ensures ∙ ap (λ (r : Read). is_date r.date55) read) i)))) k

@@ -16,25 +16,13 @@ use Rattle.forms.specs.Findings.{form_finding}
 use Rattle.forms.specs.Read.{read_of}
 use Rattle.forms.proofs.new_cells.instrument.Goals as goal
 
-pub cell-c49-requires : goal.cell-c49-requires
-cell-c49-requires c = c.requires.0
-
-pub cell-c50-requires : goal.cell-c50-requires
-cell-c50-requires c = c.requires.0
-
-pub cell-c51-requires : goal.cell-c51-requires
-cell-c51-requires c = c.requires.0
-
-pub cell-c52-requires : goal.cell-c52-requires
-cell-c52-requires c = c.requires.0
-
 pub is_terms-requires : goal.is_terms-requires
 unfolding read_of
-is_terms-requires c = (λ j. (c.requires.1 j).underlying.kind) ∙ ap (λ s. (underlying_of s).kind) (sym c.cell-c47.ensures)
+is_terms-requires c = (λ j. (c.args.line.now.told j).underlying.kind) ∙ ap (λ s. (underlying_of s).kind) (sym c.cell-c47.ensures)
 
 pub returns : goal.returns
 unfolding form_finding form_of holds read_of
-returns c = let read = c.requires.1 in
+returns c = let read = c.args.line.now.told in
     λ k. (c.optional.ensures ∙ (λ i. cond (blank (c.cell-c40.ensures i)) false (not ((c.run_of.ensures ∙ ap (run_of Alphanumeric 1 35) c.cell-c40.ensures) i)))) k
     ∷ (c.optional-2.ensures ∙ (λ i. cond (blank (c.cell-c41.ensures i)) false (not ((c.isin_right.ensures ∙ ap (isin_right) c.cell-c41.ensures) i)))) k
     ∷ (c.optional-3.ensures ∙ (λ i. cond (blank (c.cell-c42.ensures i)) false (not ((c.points_within.ensures ∙ ap (points_within 350) c.cell-c42.ensures) i)))) k

@@ -1,29 +1,14 @@
-use mathlib.Core.Path.{◌∙◌}
+use mathlib.Core.Path.{◌≡◌, ◌∙◌}
 use mathlib.Core.Bool.{false}
+use mathlib.Core.List.{◌++◌}
 use lib.ListN.{replicate}
-use lib.Seq.{sets}
+use borrow.Rule.Slice.PartMut.{put_mid}
 use Rattle.forms.proofs.ReadLaws.{all_new}
 use Rattle.forms.proofs.new_cells.new_findings.Goals as goal
 
 pub returns : goal.returns
-returns c = let f1 = c.lay-flags.ensures ∙ (λ i. sets (replicate 65 false) 0 (c.opening.ensures i)) in
-    let f2 = c.lay-flags-2.ensures ∙ (λ i. sets (f1 i) 13 (c.persons.ensures i)) in
-    let f3 = c.lay-flags-3.ensures ∙ (λ i. sets (f2 i) 26 (c.trade.ensures i)) in
-    let f4 = c.lay-flags-4.ensures ∙ (λ i. sets (f3 i) 39 (c.instrument.ensures i)) in
-    let f5 = c.lay.ensures ∙ (λ i. sets (f4 i) 52 (c.closing.ensures i)) in
-    f5 ∙ all_new _ c.requires.2
-
-pub opening-requires : goal.opening-requires
-opening-requires c = (c.requires.0, c.requires.1)
-
-pub persons-requires : goal.persons-requires
-persons-requires c = (c.requires.0, c.requires.1)
-
-pub trade-requires : goal.trade-requires
-trade-requires c = (c.requires.0, c.requires.1)
-
-pub instrument-requires : goal.instrument-requires
-instrument-requires c = (c.requires.0, c.requires.1)
-
-pub closing-requires : goal.closing-requires
-closing-requires c = (c.requires.0, c.requires.1)
+returns c =
+    (λ i. put_mid 52 13 (put_mid 39 13 (put_mid 26 13 (put_mid 13 13 ((c.copy_from_slice.ensures.after ∙ c.opening.ensures) i ++ replicate 52 false)
+      ((c.copy_from_slice-2.ensures.after ∙ c.persons.ensures) i)) ((c.copy_from_slice-3.ensures.after ∙ c.trade.ensures) i)) ((c.copy_from_slice-4.ensures.after ∙ c.instrument.ensures) i))
+      ((c.copy_from_slice-5.ensures.after ∙ c.closing.ensures) i))
+    ∙ all_new _ c.requires

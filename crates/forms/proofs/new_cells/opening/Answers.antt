@@ -15,21 +15,9 @@ use Rattle.forms.specs.Findings.{form_finding}
 use Rattle.forms.specs.Read.{read_of}
 use Rattle.forms.proofs.new_cells.opening.Goals as goal
 
-pub cell-c10-requires : goal.cell-c10-requires
-cell-c10-requires c = c.requires.0
-
-pub cell-c11-requires : goal.cell-c11-requires
-cell-c11-requires c = c.requires.0
-
-pub cell-c12-requires : goal.cell-c12-requires
-cell-c12-requires c = c.requires.0
-
-pub cell-c13-requires : goal.cell-c13-requires
-cell-c13-requires c = c.requires.0
-
 pub returns : goal.returns
 unfolding form_finding form_of holds read_of
-returns c = let read = c.requires.1 in
+returns c = let read = c.args.line.now.told in
     λ k. (c.needed.ensures ∙ (λ i. cond (blank (c.cell-c1.ensures i)) true (not ((c.is_status.ensures ∙ ap (holds ReportStatus) c.cell-c1.ensures) i)))) k
     ∷ (c.needed-2.ensures ∙ (λ i. cond (blank (c.cell-c2.ensures i)) true (not ((c.run_of.ensures ∙ ap (run_of CapitalDigit 1 52) c.cell-c2.ensures) i)))) k
     ∷ (c.optional.ensures ∙ (λ i. cond (blank (c.cell-c3.ensures i)) false (not ((c.run_of-2.ensures ∙ ap (run_of CapitalDigit 1 52) c.cell-c3.ensures) i)))) k

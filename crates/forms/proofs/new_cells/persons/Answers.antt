@@ -15,21 +15,9 @@ use Rattle.forms.specs.Findings.{form_finding}
 use Rattle.forms.specs.Read.{read_of}
 use Rattle.forms.proofs.new_cells.persons.Goals as goal
 
-pub cell-c23-requires : goal.cell-c23-requires
-cell-c23-requires c = c.requires.0
-
-pub cell-c24-requires : goal.cell-c24-requires
-cell-c24-requires c = c.requires.0
-
-pub cell-c25-requires : goal.cell-c25-requires
-cell-c25-requires c = c.requires.0
-
-pub cell-c26-requires : goal.cell-c26-requires
-cell-c26-requires c = c.requires.0
-
 pub returns : goal.returns
 unfolding form_finding form_of holds read_of
-returns c = let read = c.requires.1 in
+returns c = let read = c.args.line.now.told in
     λ k. (c.optional.ensures ∙ (λ i. cond (blank (c.cell-c14.ensures i)) false (not ((c.points_within.ensures ∙ ap (points_within 140) c.cell-c14.ensures) i)))) k
     ∷ (c.optional-2.ensures ∙ (λ i. cond (blank (c.cell-c15.ensures i)) false (not ((c.is_date.ensures ∙ ap (λ (r : Read). is_date r.date15) read) i)))) k
     ∷ (c.needed.ensures ∙ (λ i. cond (blank (c.cell-c16.ensures i)) true (not (not ((c.is_malformed.ensures ∙ ap (λ (r : Read). is_malformed r.seller.identifier) read) i))))) k

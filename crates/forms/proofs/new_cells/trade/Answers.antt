@@ -17,21 +17,9 @@ use Rattle.forms.specs.Findings.{form_finding}
 use Rattle.forms.specs.Read.{read_of}
 use Rattle.forms.proofs.new_cells.trade.Goals as goal
 
-pub cell-c36-requires : goal.cell-c36-requires
-cell-c36-requires c = c.requires.0
-
-pub cell-c37-requires : goal.cell-c37-requires
-cell-c37-requires c = c.requires.0
-
-pub cell-c38-requires : goal.cell-c38-requires
-cell-c38-requires c = c.requires.0
-
-pub cell-c39-requires : goal.cell-c39-requires
-cell-c39-requires c = c.requires.0
-
 pub returns : goal.returns
 unfolding form_finding form_of holds read_of
-returns c = let read = c.requires.1 in
+returns c = let read = c.args.line.now.told in
     λ k. (c.optional.ensures ∙ (λ i. cond (blank (c.cell-c27.ensures i)) false (not ((c.lei_shaped.ensures ∙ ap (lei_shaped) c.cell-c27.ensures) i)))) k
     ∷ (c.needed.ensures ∙ (λ i. cond (blank (c.cell-c28.ensures i)) true (not ((c.is_when.ensures ∙ ap (λ (r : Read). is_when r.moment) read) i)))) k
     ∷ (c.needed-2.ensures ∙ (λ i. cond (blank (c.cell-c29.ensures i)) true (not ((c.one_of.ensures ∙ ap (word "DEALMTCHAOTC") c.cell-c29.ensures) i)))) k

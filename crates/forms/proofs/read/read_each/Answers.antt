@@ -6,43 +6,7 @@ use Rattle.baskets.specs.Underlying.{underlying_of}
 use Rattle.amount.specs.Price.{price_of}
 use Rattle.amount.specs.Quantity.{quantity_of}
 use Rattle.forms.specs.Read.{read_of}
-use Rattle.forms.proofs.read.read_cells.Goals as goal
-
-pub cell-requires-5 : goal.cell-requires-5
-cell-requires-5 c = c.requires
-
-pub cell-requires-6 : goal.cell-requires-6
-cell-requires-6 c = c.requires
-
-pub cell-requires-7 : goal.cell-requires-7
-cell-requires-7 c = c.requires
-
-pub cell-requires-8 : goal.cell-requires-8
-cell-requires-8 c = c.requires
-
-pub cell-requires-9 : goal.cell-requires-9
-cell-requires-9 c = c.requires
-
-pub cell-requires-10 : goal.cell-requires-10
-cell-requires-10 c = c.requires
-
-pub cell-requires-11 : goal.cell-requires-11
-cell-requires-11 c = c.requires
-
-pub cell-requires-12 : goal.cell-requires-12
-cell-requires-12 c = c.requires
-
-pub cell-requires-13 : goal.cell-requires-13
-cell-requires-13 c = c.requires
-
-pub cell-requires-14 : goal.cell-requires-14
-cell-requires-14 c = c.requires
-
-pub cell-requires-15 : goal.cell-requires-15
-cell-requires-15 c = c.requires
-
-pub cell-requires-16 : goal.cell-requires-16
-cell-requires-16 c = c.requires
+use Rattle.forms.proofs.read.read_each.Goals as goal
 
 pub returns : goal.returns
 unfolding read_of
