@@ -65,6 +65,7 @@ pub fn other_findings(split: &SplitLine) -> [bool; 65]
 }
 
 // The 65 flags of a line: flag f - 1 is finding 1000 + f.
+#[tactic(auto, unfolding(crate::specs::Findings::status_of))]
 pub fn form_findings(split: &SplitLine) -> [bool; 65]
     ensures { result ≡ form_findings split.now.line.now }
 {

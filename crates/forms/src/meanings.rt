@@ -1,4 +1,6 @@
 // What the forms ask of a cell that is not blank, where a formula is longer than its place allows.
+#![tactic(auto, unfolding(crate::specs::Forms::holds))]
+
 ghost use Rattle.std.specs.Prelude.{◌≡◌};
 ghost use Rattle.baskets.specs.Underlying.{underlying_of};
 ghost use Rattle.forms.specs.Forms.{holds, terms_of_kind, terms_by};
@@ -7,21 +9,18 @@ use crate::tables::Form;
 use baskets::Kind;
 use text::Class;
 
-#[tactic(auto, unfolding(crate::specs::Forms::holds))]
 pub fn is_status(s: &[u8]) -> bool
     ensures { result ≡ holds Form.ReportStatus s.now }
 {
     text::same(s, b"NEW") | text::same(s, b"CXL")
 }
 
-#[tactic(auto, unfolding(crate::specs::Forms::holds))]
 pub fn is_truth(s: &[u8]) -> bool
     ensures { result ≡ holds Form.Truth s.now }
 {
     text::same(s, b"TRUE") | text::same(s, b"FALSE")
 }
 
-#[tactic(auto, unfolding(crate::specs::Forms::holds))]
 fn terms_of_kind(s: &[u8], kind: Kind) -> bool
     ensures { result ≡ holds (terms_of_kind kind) s.now }
 {
@@ -40,7 +39,6 @@ pub fn is_terms(s: &[u8], underlying: &[u8], kind: Kind) -> bool
 }
 
 // Three capitals behind FX: or INTRST:.
-#[tactic(auto, unfolding(crate::specs::Forms::holds))]
 pub fn is_second_currency(s: &[u8]) -> bool
     ensures { result ≡ holds Form.SecondCurrency s.now }
 {

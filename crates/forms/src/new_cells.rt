@@ -1,4 +1,6 @@
 // The findings of a line that is NEW, one line a cell: whether the line needs it, and its form.
+#![tactic(auto, using(crate::proofs::ReadLaws::or_cond, crate::proofs::ReadLaws::and_cond), unfolding(crate::specs::Findings::form_finding, crate::specs::Forms::form_of, crate::specs::Forms::holds, crate::specs::Read::read_of))]
+
 ghost use Rattle.std.specs.Prelude.{◌≡◌, true, false, not, cond};
 ghost use Rattle.text.specs.Word.{blank};
 ghost use Rattle.cells.specs.Cells.{cell};

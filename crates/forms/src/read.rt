@@ -47,6 +47,7 @@ impl<'t, 'a> ReadLine<'t, 'a> {
 }
 
 // Each cell is read by its own parser.
+#[tactic(auto, unfolding(crate::specs::Read::read_of))]
 fn read_each(split: &SplitLine) -> Read
     ensures { result ≡ read_of split.now.line.now }
 {
