@@ -1,8 +1,7 @@
 -- The facts that the engine works out, each the condition of a rule or a part of one. Nobody needs this file to read the rules.
-use Rattle.std.specs.Prelude.{ℕ, Bool, false, cond, not, ◌&&◌, ◌||◌, List, eqb, ltb, get_or}
+use Rattle.std.specs.Prelude.{ℕ, Bool, Option, false, cond, not, ◌&&◌, ◌||◌, List, eqb, ltb, get_or}
 use Rattle.text.specs.Word.{blank, same}
 use Rattle.cells.specs.Cells.{cell}
-use Rattle.calendar.specs.declared.dates.Date.{Date}
 use Rattle.calendar.specs.declared.moments.Moment.{Moment}
 use Rattle.baskets.specs.declared.underlying.Underlying.{Underlying}
 use Rattle.polish.specs.Cells.{form_wrong, check_wrong, born_wrong}
@@ -54,7 +53,7 @@ entity_from line asked =
     }
 
 -- `dated`: the party's date is present
-unfoldable pub party_from : Party → List ℕ → Bool → Date → List ℕ → PartyAsked → ℕ → PartyFacts
+unfoldable pub party_from : Party → List ℕ → Bool → Option ℕ → List ℕ → PartyAsked → ℕ → PartyFacts
 party_from party s dated date entity asked t =
     record {
       lei = is_lei party.identifier && not asked.lei;

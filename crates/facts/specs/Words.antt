@@ -1,16 +1,12 @@
 -- The words in which the rules are said: of cells, lists and days.
-use Rattle.std.specs.Prelude.{ℕ, Bool, true, false, cond, not, ◌&&◌, ◌||◌, List, [], eqb, leb, ltb, drop}
+use Rattle.std.specs.Prelude.{ℕ, Bool, Option, Some, None, true, false, cond, not, ◌&&◌, ◌||◌, List, [], eqb, leb, ltb, drop}
 use Prim.Native.String.{String}
 use Rattle.text.specs.Ascii.{ascii}
 use Rattle.text.specs.Word.{blank, same, starts_with, one_of}
 use Rattle.calendar.specs.Day.{five_years_before}
 use Rattle.calendar.specs.Dates.{date_of}
 use Rattle.calendar.specs.Moments.{when_of, is_before}
-use Rattle.calendar.specs.declared.dates.Date.{Date}
-use Rattle.calendar.specs.declared.dates.Date.TheVariants.{On, Malformed as NoDate}
 use Rattle.calendar.specs.declared.moments.Moment.{Moment}
-use Rattle.calendar.specs.declared.moments.When.{When}
-use Rattle.calendar.specs.declared.moments.When.TheVariants.{At, Malformed as NoMoment}
 use Rattle.ident.specs.Codes.{lei_right}
 use Rattle.ident.specs.Person.{country_of, concat_day}
 use Rattle.ident.specs.Party.{party_of, part_of, is_lei, is_mic, is_concat, is_person}
@@ -40,17 +36,17 @@ abbrev pub off : List ℕ → Bool
 off s = says "XXXX" s || says "XOFF" s
 
 -- the moment of cell 28, and its day
-abbrev pub moment_in : When → Moment
-moment_in (At moment) = moment
-moment_in NoMoment = record { day = 0; micro = 0 }
+abbrev pub moment_in : Option Moment → Moment
+moment_in (Some moment) = moment
+moment_in None = record { day = 0; micro = 0 }
 
 unfoldable pub moment_of : List ℕ → Moment
 moment_of s = moment_in (when_of s)
 
 -- the day of a date cell
-abbrev pub day_in : Date → ℕ
-day_in (On day) = day
-day_in NoDate = 0
+abbrev pub day_in : Option ℕ → ℕ
+day_in (Some day) = day
+day_in None = 0
 
 unfoldable pub day_of : List ℕ → ℕ
 day_of s = day_in (date_of s)

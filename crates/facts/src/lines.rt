@@ -1,8 +1,8 @@
 // All facts of a line.
+#![tactic(auto, unfolding(crate::specs::Facts::facts_from, crate::specs::Facts::deal_of, crate::specs::Rules::good_cells))]
+
 ghost use Rattle.std.specs.Prelude.{◌≡◌, false, not, ◌∷◌, map};
-ghost use Rattle.cells.specs.Split.{Tabled};
 ghost use Rattle.forms.specs.Findings.{form_findings};
-ghost use Rattle.forms.specs.Read.{read_of};
 ghost use Rattle.facts.specs.Words.{is_live, is_absent, is_cancelled};
 ghost use Rattle.facts.specs.Facts.{deal_of, country_from, facts_from};
 
@@ -12,7 +12,9 @@ use crate::money::{MoneyFacts, money_facts};
 use crate::parties::{PartiesFacts, parties_facts};
 use crate::times::{TimeFacts, time_facts, trade_day};
 use crate::trades::{TradeFacts, holdings, trade_facts};
-use forms::Read;
+use calendar::Moment;
+use cells::SplitLine;
+use forms::ReadLine;
 use register::Standing;
 
 #[derive(Clone, Copy)]
@@ -46,63 +48,42 @@ pub struct Facts {
 fn is_live(standing: Standing) -> bool
     ensures { result ≡ is_live standing }
 {
-    match standing {
-        Standing::Live => true,
-        Standing::Absent => false,
-        Standing::Cancelled => false,
-    }
+    standing == Standing::Live
 }
 
 pub fn is_absent(standing: Standing) -> bool
     ensures { result ≡ is_absent standing }
 {
-    match standing {
-        Standing::Absent => true,
-        Standing::Live => false,
-        Standing::Cancelled => false,
-    }
+    standing == Standing::Absent
 }
 
 pub fn is_cancelled(standing: Standing) -> bool
     ensures { result ≡ is_cancelled standing }
 {
-    match standing {
-        Standing::Cancelled => true,
-        Standing::Absent => false,
-        Standing::Live => false,
-    }
+    standing == Standing::Cancelled
 }
 
 // From the form findings of the 65 cells to what is good, by cell number.
 pub fn good_cells(found: &[bool; 65]) -> [bool; 66]
     ensures { result ≡ false ∷ map not found.now }
 {
-    let all = &found[..];
     let mut ok = [false; 66];
-    let mut i = 0;
-    while i < 65 {
-        ok[i + 1] = !all[i];
-        i += 1;
+    for i in 0..65 {
+        ok[i + 1] = !found[i];
     }
     ok
 }
 
 // `entity`: one of the parties is the executing entity.
-fn deal_facts<'a, 't>(
-    line: &'a [u8],
-    starts: &'t [usize; 65],
-    ends: &'t [usize; 65],
-    entity: bool,
-) -> DealFacts
-    requires { Tabled line.now starts.now ends.now }
-    ensures { result ≡ deal_of line.now entity }
+fn deal_facts(split: &SplitLine, entity: bool) -> DealFacts
+    ensures { result ≡ deal_of split.now.line.now entity }
 {
-    let c29 = cells::cell(line, starts, ends, 29);
+    let c29 = split.cell(29);
     let deal = text::same(c29, b"DEAL");
-    let kept = text::same(cells::cell(line, starts, ends, 25), b"FALSE");
-    let buyers_firm = cells::cell(line, starts, ends, 26).len() != 0;
-    let sellers_firm = cells::cell(line, starts, ends, 27).len() != 0;
-    let decider = cells::cell(line, starts, ends, 57).len() != 0;
+    let kept = text::same(split.cell(25), b"FALSE");
+    let buyers_firm = split.cell(26).len() != 0;
+    let sellers_firm = split.cell(27).len() != 0;
+    let decider = split.cell(57).len() != 0;
     DealFacts {
         transmitted: (deal | text::same(c29, b"MTCH")) & !kept,
         not_own: deal & !entity,
@@ -117,45 +98,33 @@ fn country_wrong(s: &[u8], known: bool) -> bool
     (s.len() != 0) & !known
 }
 
-// The line's split, its form findings, what was read of it, what the lists say of it, how its pair stands in the register, and the submission moment.
-pub fn line_facts<'a, 't>(
-    line: &'a [u8],
-    starts: &'t [usize; 65],
-    ends: &'t [usize; 65],
+// The line with what was read of it, its form findings, what the lists say of it, how its pair stands in the register, and the submission moment.
+pub fn line_facts(
+    line: &ReadLine,
     found: &[bool; 65],
-    read: Read,
     asked: Asked,
     standing: Standing,
-    day: u32,
-    micro: u64,
+    submitted: Moment,
 ) -> Facts
-    requires { Tabled line.now starts.now ends.now × (found.now ≡ form_findings line.now) × (read ≡ read_of line.now) }
-    ensures { result ≡ facts_from line.now read asked standing day micro }
+    requires { found.now ≡ form_findings line.now.split.now.line.now }
+    ensures { result ≡ facts_from line.now.split.now.line.now line.now.read asked standing submitted.day submitted.micro }
 {
-    let t = trade_day(read);
-    let asked_parties = asked.parties;
-    let asked_entity = asked.entity;
-    let asked_money = asked.money;
-    let venue = asked.venue;
-    let instrument = asked.instrument;
-    let underlying = read.underlying;
-    let parties = parties_facts(line, starts, ends, read, asked_parties, t);
-    let buyer = parties.buyer;
-    let seller = parties.seller;
-    let own = buyer.entity | seller.entity;
-    let held = holdings(line, starts, ends, read);
+    let split = line.split;
+    let parties = parties_facts(line, asked.parties, trade_day(line.read));
+    let own = parties.buyer.entity | parties.seller.entity;
+    let held = holdings(line);
     Facts {
         ok: good_cells(found),
         live: is_live(standing),
-        entity: entity_facts(line, starts, ends, asked_entity),
+        entity: entity_facts(split, asked.entity),
         parties,
-        country8: country_wrong(cells::cell(line, starts, ends, 8), asked.country8),
-        country17: country_wrong(cells::cell(line, starts, ends, 17), asked.country17),
-        country37: country_wrong(cells::cell(line, starts, ends, 37), asked.country37),
-        time: time_facts(line, starts, ends, read, day, micro),
-        deal: deal_facts(line, starts, ends, own),
-        money: money_facts(line, starts, ends, asked_money),
-        trade: trade_facts(line, starts, ends, venue, instrument, &held, underlying),
-        cfi: cfi::cfi_findings(&held, cells::cell(line, starts, ends, 43)),
+        country8: country_wrong(split.cell(8), asked.country8),
+        country17: country_wrong(split.cell(17), asked.country17),
+        country37: country_wrong(split.cell(37), asked.country37),
+        time: time_facts(line, submitted),
+        deal: deal_facts(split, own),
+        money: money_facts(split, asked.money),
+        trade: trade_facts(line, asked.venue, asked.instrument, &held),
+        cfi: cfi::cfi_findings(&held, split.cell(43)),
     }
 }

@@ -1,10 +1,12 @@
 // Currencies.
+#![tactic(auto, unfolding(crate::specs::Words::second_currency, crate::specs::Words::no_money, crate::specs::Facts::currency_from, crate::specs::Facts::quantity_currency_from, crate::specs::Facts::money_from))]
+
 ghost use Rattle.std.specs.Prelude.{◌≡◌};
-ghost use Rattle.cells.specs.Split.{Tabled};
 ghost use Rattle.facts.specs.Words.{no_money, second_currency};
 ghost use Rattle.facts.specs.Facts.{currency_from, quantity_currency_from, money_from};
 
 use crate::answers::MoneyAsked;
+use cells::SplitLine;
 use lists::CurrencyRows;
 
 #[derive(Clone, Copy)]
@@ -49,26 +51,15 @@ pub fn second_currency(s: &[u8]) -> &[u8]
 }
 
 // Cells 31, 34, 44, 45 and 52, with what was asked.
-pub fn money_facts<'a, 't>(
-    line: &'a [u8],
-    starts: &'t [usize; 65],
-    ends: &'t [usize; 65],
-    asked: MoneyAsked,
-) -> MoneyFacts
-    requires { Tabled line.now starts.now ends.now }
-    ensures { result ≡ money_from line.now asked }
+pub fn money_facts(split: &SplitLine, asked: MoneyAsked) -> MoneyFacts
+    ensures { result ≡ money_from split.now.line.now asked }
 {
-    let quantity = asked.quantity;
-    let price = asked.price;
-    let notional = asked.notional;
-    let second = asked.second;
-    let strike = asked.strike;
-    let c45 = second_currency(cells::cell(line, starts, ends, 45));
+    let c45 = second_currency(split.cell(45));
     MoneyFacts {
-        quantity: quantity_currency_wrong(cells::cell(line, starts, ends, 31), quantity),
-        price: currency_wrong(cells::cell(line, starts, ends, 34), price),
-        notional: currency_wrong(cells::cell(line, starts, ends, 44), notional),
-        second: currency_wrong(c45, second),
-        strike: currency_wrong(cells::cell(line, starts, ends, 52), strike),
+        quantity: quantity_currency_wrong(split.cell(31), asked.quantity),
+        price: currency_wrong(split.cell(34), asked.price),
+        notional: currency_wrong(split.cell(44), asked.notional),
+        second: currency_wrong(c45, asked.second),
+        strike: currency_wrong(split.cell(52), asked.strike),
     }
 }

@@ -1,13 +1,13 @@
 // The four parties with their dates: buyer 7 and 11, its decision maker 12 and 15, seller 16 and 20, its decision maker 21 and 24.
+#![tactic(auto, unfolding(crate::specs::Facts::party_from, crate::specs::Facts::parties_from))]
+
 ghost use Rattle.std.specs.Prelude.{◌≡◌};
-ghost use Rattle.cells.specs.Split.{Tabled};
 ghost use Rattle.facts.specs.Words.{off};
 ghost use Rattle.facts.specs.Facts.{party_from, parties_from};
 
 use crate::answers::{PartiesAsked, PartyAsked};
 use crate::times::day_in;
-use calendar::Date;
-use forms::Read;
+use forms::ReadLine;
 use ident::Party;
 
 #[derive(Clone, Copy)]
@@ -43,7 +43,7 @@ pub fn party_facts(
     party: Party,
     s: &[u8],
     dated: bool,
-    date: Date,
+    date: Option<u32>,
     entity: &[u8],
     asked: PartyAsked,
     t: u32,
@@ -68,42 +68,51 @@ pub fn party_facts(
     }
 }
 
-pub fn parties_facts<'a, 't>(
-    line: &'a [u8],
-    starts: &'t [usize; 65],
-    ends: &'t [usize; 65],
-    read: Read,
-    asked: PartiesAsked,
-    t: u32,
-) -> PartiesFacts
-    requires { Tabled line.now starts.now ends.now }
-    ensures { result ≡ parties_from line.now read asked t }
+pub fn parties_facts(line: &ReadLine, asked: PartiesAsked, t: u32) -> PartiesFacts
+    ensures { result ≡ parties_from line.now.split.now.line.now line.now.read asked t }
 {
-    let party7 = read.buyer;
-    let party12 = read.buyer_for;
-    let party16 = read.seller;
-    let party21 = read.seller_for;
-    let date11 = read.date11;
-    let date15 = read.date15;
-    let date20 = read.date20;
-    let date24 = read.date24;
-    let asked7 = asked.buyer;
-    let asked12 = asked.buyer_for;
-    let asked16 = asked.seller;
-    let asked21 = asked.seller_for;
-    let entity = cells::cell(line, starts, ends, 4);
-    let c7 = cells::cell(line, starts, ends, 7);
-    let c12 = cells::cell(line, starts, ends, 12);
-    let c16 = cells::cell(line, starts, ends, 16);
-    let c21 = cells::cell(line, starts, ends, 21);
-    let dated11 = cells::cell(line, starts, ends, 11).len() != 0;
-    let dated15 = cells::cell(line, starts, ends, 15).len() != 0;
-    let dated20 = cells::cell(line, starts, ends, 20).len() != 0;
-    let dated24 = cells::cell(line, starts, ends, 24).len() != 0;
+    let read = &line.read;
+    let entity = line.cell(4);
+    let dated11 = line.cell(11).len() != 0;
+    let dated15 = line.cell(15).len() != 0;
+    let dated20 = line.cell(20).len() != 0;
+    let dated24 = line.cell(24).len() != 0;
     PartiesFacts {
-        buyer: party_facts(party7, c7, dated11, date11, entity, asked7, t),
-        buyer_for: party_facts(party12, c12, dated15, date15, entity, asked12, t),
-        seller: party_facts(party16, c16, dated20, date20, entity, asked16, t),
-        seller_for: party_facts(party21, c21, dated24, date24, entity, asked21, t),
+        buyer: party_facts(
+            read.buyer,
+            line.cell(7),
+            dated11,
+            read.date11,
+            entity,
+            asked.buyer,
+            t,
+        ),
+        buyer_for: party_facts(
+            read.buyer_for,
+            line.cell(12),
+            dated15,
+            read.date15,
+            entity,
+            asked.buyer_for,
+            t,
+        ),
+        seller: party_facts(
+            read.seller,
+            line.cell(16),
+            dated20,
+            read.date20,
+            entity,
+            asked.seller,
+            t,
+        ),
+        seller_for: party_facts(
+            read.seller_for,
+            line.cell(21),
+            dated24,
+            read.date24,
+            entity,
+            asked.seller_for,
+            t,
+        ),
     }
 }

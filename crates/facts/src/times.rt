@@ -1,11 +1,12 @@
 // Days and moments.
+#![tactic(auto, unfolding(crate::specs::Facts::time_from, crate::specs::Words::not_before, crate::specs::Words::too_old))]
+
 ghost use Rattle.std.specs.Prelude.{◌≡◌};
-ghost use Rattle.cells.specs.Split.{Tabled};
 ghost use Rattle.facts.specs.Words.{moment_in, day_in, not_before, too_old};
 ghost use Rattle.facts.specs.Facts.{time_from};
 
-use calendar::{Date, Moment, When};
-use forms::Read;
+use calendar::Moment;
+use forms::{Read, ReadLine};
 
 #[derive(Clone, Copy)]
 pub struct TimeFacts {
@@ -18,37 +19,29 @@ pub struct TimeFacts {
 }
 
 // The moment of cell 28.
-pub fn moment_in(when: When) -> Moment
+pub fn moment_in(when: Option<Moment>) -> Moment
     ensures { result ≡ moment_in when }
 {
-    match when {
-        When::At(moment) => moment,
-        When::Malformed => Moment { day: 0, micro: 0 },
-    }
+    when.unwrap_or(Moment { day: 0, micro: 0 })
 }
 
-pub fn day_in(date: Date) -> u32
+pub fn day_in(date: Option<u32>) -> u32
     ensures { result ≡ day_in date }
 {
-    match date {
-        Date::On(day) => day,
-        Date::Malformed => 0,
-    }
+    date.unwrap_or(0)
 }
 
 // T, the day of cell 28.
 pub fn trade_day(read: Read) -> u32
     ensures { result ≡ (moment_in read.moment).day }
 {
-    let when = read.moment;
-    let moment = moment_in(when);
-    moment.day
+    moment_in(read.moment).day
 }
 
-fn not_before(moment: Moment, day: u32, micro: u64) -> bool
-    ensures { result ≡ not_before moment day micro }
+fn not_before(moment: Moment, submitted: Moment) -> bool
+    ensures { result ≡ not_before moment submitted.day submitted.micro }
 {
-    !calendar::is_before(moment, Moment { day, micro })
+    !calendar::is_before(moment, submitted)
 }
 
 // Before 2018-01-03, or before the day five years before s.
@@ -59,28 +52,18 @@ fn too_old(t: u32, s: u32) -> bool
 }
 
 // The moment and the days of cells 54 and 55, against the submission moment.
-pub fn time_facts<'a, 't>(
-    line: &'a [u8],
-    starts: &'t [usize; 65],
-    ends: &'t [usize; 65],
-    read: Read,
-    day: u32,
-    micro: u64,
-) -> TimeFacts
-    requires { Tabled line.now starts.now ends.now }
-    ensures { result ≡ time_from line.now read day micro }
+pub fn time_facts(line: &ReadLine, submitted: Moment) -> TimeFacts
+    ensures { result ≡ time_from line.now.split.now.line.now line.now.read submitted.day submitted.micro }
 {
-    let when = read.moment;
-    let moment = moment_in(when);
+    let read = &line.read;
+    let moment = moment_in(read.moment);
     let t = moment.day;
-    let date54 = read.date54;
-    let date55 = read.date55;
-    let dated54 = cells::cell(line, starts, ends, 54).len() != 0;
-    let dated55 = cells::cell(line, starts, ends, 55).len() != 0;
+    let dated54 = line.cell(54).len() != 0;
+    let dated55 = line.cell(55).len() != 0;
     TimeFacts {
-        not_before: not_before(moment, day, micro),
-        too_old: too_old(t, day),
-        past54: dated54 & (day_in(date54) < t),
-        past55: dated55 & (day_in(date55) < t),
+        not_before: not_before(moment, submitted),
+        too_old: too_old(t, submitted.day),
+        past54: dated54 & (day_in(read.date54) < t),
+        past55: dated55 & (day_in(read.date55) < t),
     }
 }

@@ -1,7 +1,7 @@
 // The venue, the instrument, and what the cells hold.
+#![tactic(auto, unfolding(crate::specs::Facts::trade_from, crate::specs::Facts::quantity_held, crate::specs::Facts::price_held, crate::specs::Words::held_word, crate::specs::Words::held_quantity, crate::specs::Words::held_price, crate::specs::Words::held_swap, crate::specs::Rules::holdings, forms::specs::Read::read_of))]
+
 ghost use Rattle.std.specs.Prelude.{◌≡◌};
-ghost use Rattle.cells.specs.Split.{Tabled};
-ghost use Rattle.forms.specs.Read.{read_of};
 ghost use Rattle.facts.specs.Words.{held_at_all, held_word, kind_held, swap_held};
 ghost use Rattle.facts.specs.Rules.{holdings};
 ghost use Rattle.facts.specs.Facts.{quantity_held, price_held, trade_from};
@@ -9,7 +9,7 @@ ghost use Rattle.facts.specs.Facts.{quantity_held, price_held, trade_from};
 use crate::parties::is_off;
 use amount::{Price, Quantity};
 use baskets::{Kind, Underlying};
-use forms::Read;
+use forms::ReadLine;
 use lists::{InstrumentRows, VenueRows};
 
 #[derive(Clone, Copy)]
@@ -30,32 +30,28 @@ pub struct TradeFacts {
 
 // The cells of a trade that the venue's and the instrument's rules read: 3, 25, 36 and 37, with what the lists say of 36 and 41 and what the others
 // hold: 331 is units (2) in 30 and percent (4) in 33, 351 a blank (1) in 35. And what was read of 47.
-pub fn trade_facts<'a, 't>(
-    line: &'a [u8],
-    starts: &'t [usize; 65],
-    ends: &'t [usize; 65],
+pub fn trade_facts(
+    line: &ReadLine,
     venue: VenueRows,
     rows: InstrumentRows,
     held: &[u8; 66],
-    underlying: Underlying,
 ) -> TradeFacts
-    requires { Tabled line.now starts.now ends.now }
-    ensures { result ≡ trade_from line.now venue rows held.now underlying }
+    ensures { result ≡ trade_from line.now.split.now.line.now venue rows held.now line.now.read.underlying }
 {
-    let c36 = cells::cell(line, starts, ends, 36);
+    let c36 = line.cell(36);
     let off = is_off(c36);
-    let coded = cells::cell(line, starts, ends, 3).len() != 0;
-    let branch = cells::cell(line, starts, ends, 37).len() != 0;
+    let coded = line.cell(3).len() != 0;
+    let branch = line.cell(37).len() != 0;
     TradeFacts {
         no_code: coded & (off | venue.kind2 | venue.kind3),
         unknown: !off & !(venue.kind1 | venue.kind2 | venue.kind3),
         listed_off: text::same(c36, b"XXXX") & rows.listed,
-        transmitted: text::same(cells::cell(line, starts, ends, 25), b"TRUE") & !off,
+        transmitted: text::same(line.cell(25), b"TRUE") & !off,
         no_branch: (venue.kind1 | venue.kind3) & !branch,
         branch: branch & (off | venue.kind2),
         debt_in_units: (held[30] == 2) & (held[33] == 4) & rows.debt,
         bond_without_net: (held[35] == 1) & rows.bond,
-        wrong_isin: !underlying.right,
+        wrong_isin: !line.read.underlying.right,
     }
 }
 
@@ -127,48 +123,29 @@ fn held_swap(s: &[u8], underlying: Underlying, name: &[u8]) -> u8
     if s.len() == 0 {
         return 1;
     }
-    let kind = underlying.kind;
-    kind_held(kind, !underlying.legs & (name.len() == 0))
+    kind_held(underlying.kind, !underlying.legs & (name.len() == 0))
 }
 
 // What each cell holds that the rules by CFI ask for, by cell number.
-pub fn holdings<'a, 't>(
-    line: &'a [u8],
-    starts: &'t [usize; 65],
-    ends: &'t [usize; 65],
-    read: Read,
-) -> [u8; 66]
-    requires { Tabled line.now starts.now ends.now × (read ≡ read_of line.now) }
-    ensures { result ≡ holdings line.now }
+pub fn holdings(line: &ReadLine) -> [u8; 66]
+    ensures { result ≡ holdings line.now.split.now.line.now }
 {
-    let quantity = read.quantity;
-    let price = read.price;
-    let underlying = read.underlying;
+    let read = &line.read;
     let mut held = [0; 66];
-    held[30] = held_quantity(cells::cell(line, starts, ends, 30), quantity);
-    held[33] = held_price(cells::cell(line, starts, ends, 33), price);
-    held[35] = held_at_all(cells::cell(line, starts, ends, 35));
-    held[38] = held_at_all(cells::cell(line, starts, ends, 38));
-    let c47 = cells::cell(line, starts, ends, 47);
-    let c48 = cells::cell(line, starts, ends, 48);
-    held[47] = held_swap(c47, underlying, c48);
+    held[30] = held_quantity(line.cell(30), read.quantity);
+    held[33] = held_price(line.cell(33), read.price);
+    held[35] = held_at_all(line.cell(35));
+    held[38] = held_at_all(line.cell(38));
+    let c47 = line.cell(47);
+    let c48 = line.cell(48);
+    held[47] = held_swap(c47, read.underlying, c48);
     held[48] = held_at_all(c48);
-    held[49] = held_at_all(cells::cell(line, starts, ends, 49));
-    held[50] = held_word(
-        cells::cell(line, starts, ends, 50),
-        b"PUTO",
-        b"CALL",
-        b"OTHR",
-    );
-    held[51] = held_at_all(cells::cell(line, starts, ends, 51));
-    held[53] = held_at_all(cells::cell(line, starts, ends, 53));
-    held[54] = held_at_all(cells::cell(line, starts, ends, 54));
-    held[55] = held_at_all(cells::cell(line, starts, ends, 55));
-    held[56] = held_word(
-        cells::cell(line, starts, ends, 56),
-        b"PHYS",
-        b"CASH",
-        b"OPTL",
-    );
+    held[49] = held_at_all(line.cell(49));
+    held[50] = held_word(line.cell(50), b"PUTO", b"CALL", b"OTHR");
+    held[51] = held_at_all(line.cell(51));
+    held[53] = held_at_all(line.cell(53));
+    held[54] = held_at_all(line.cell(54));
+    held[55] = held_at_all(line.cell(55));
+    held[56] = held_word(line.cell(56), b"PHYS", b"CASH", b"OPTL");
     held
 }

@@ -8,6 +8,3 @@ use Rattle.facts.proofs.lines.good_cells.Given as goal
 
 abbrev pub invariant-loop-i : goal.invariant-loop-i
 invariant-loop-i l = (l.i ≤ 65) × (length l.found ≡ 65) × Begun (false ∷ map not l.found) l.ok (l.i + 1)
-
-abbrev pub decreases-loop-i : goal.decreases-loop-i
-decreases-loop-i l = 65 - l.i

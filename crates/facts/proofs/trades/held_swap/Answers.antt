@@ -1,9 +1,0 @@
-use mathlib.Core.Path.{◌∙◌}
-use borrow.Author.Tests.{eq-eqb, ne_eqb}
-use Rattle.facts.proofs.trades.held_swap.Goals as goal
-
-pub returns-then-s-eq0 : goal.returns-then-s-eq0
-returns-then-s-eq0 c = rw (eq-eqb _ _ c.if-s-eq0.true)
-
-pub returns : goal.returns
-returns c = c.kind_held.ensures ∙ rw (ne_eqb _ _ c.if-s-eq0.false)
