@@ -4,11 +4,13 @@
 // head counts.
 #![tactic(auto)]
 
+mod all;
 mod frame;
 mod lookups;
 mod rows;
 mod scan;
 
+pub use all::Lists;
 pub use frame::{Mark, framed};
 pub use lookups::{
     CurrencyRows, InstrumentRows, LeiRows, VenueRows, country_known, currency_rows,
