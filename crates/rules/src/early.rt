@@ -13,23 +13,19 @@ pub fn pair_and_buyer(base: [bool; CODE_COUNT], f: Facts) -> [bool; CODE_COUNT]
     ensures { (c : Call) → is_new c.line ≡ true → f ≡ facts_of c → result ≡ put base 0 (map (given c) rules1) }
 {
     let ok = f.ok;
-    let entity = f.entity;
-    let parties = f.parties;
-    let buyer = parties.buyer;
-    let trade = f.trade;
     let group = [
         ok[4] & ok[2] & f.live,
         false,
         false,
-        ok[3] & ok[36] & ok[28] & trade.no_code,
-        ok[4] & ok[5] & ok[28] & entity.member,
-        ok[4] & ok[5] & ok[28] & entity.other,
-        ok[6] & entity.submitter,
-        ok[7] & ok[28] & buyer.lei,
-        ok[7] & ok[28] & buyer.country,
-        ok[7] & ok[28] & buyer.mic,
-        ok[7] & ok[11] & buyer.birth,
-        ok[7] & buyer.shape,
+        ok[3] & ok[36] & ok[28] & f.trade.no_code,
+        ok[4] & ok[5] & ok[28] & f.entity.member,
+        ok[4] & ok[5] & ok[28] & f.entity.other,
+        ok[6] & f.entity.submitter,
+        ok[7] & ok[28] & f.parties.buyer.lei,
+        ok[7] & ok[28] & f.parties.buyer.country,
+        ok[7] & ok[28] & f.parties.buyer.mic,
+        ok[7] & ok[11] & f.parties.buyer.birth,
+        ok[7] & f.parties.buyer.shape,
     ];
     verdict::place(base, 0, &group)
 }
@@ -39,23 +35,19 @@ pub fn deciders_and_seller(base: [bool; CODE_COUNT], f: Facts) -> [bool; CODE_CO
     ensures { (c : Call) → is_new c.line ≡ true → f ≡ facts_of c → result ≡ put base 12 (map (given c) rules2) }
 {
     let ok = f.ok;
-    let parties = f.parties;
-    let buyer = parties.buyer;
-    let buyer_for = parties.buyer_for;
-    let seller = parties.seller;
     let group = [
         ok[8] & ok[28] & f.country8,
-        ok[11] & ok[28] & buyer.late,
-        ok[12] & ok[28] & buyer_for.lei,
-        ok[12] & ok[28] & buyer_for.country,
-        ok[12] & ok[15] & buyer_for.birth,
-        ok[12] & buyer_for.shape,
-        ok[15] & ok[28] & buyer_for.late,
-        ok[16] & ok[28] & seller.lei,
-        ok[16] & ok[28] & seller.country,
-        ok[16] & ok[28] & seller.mic,
-        ok[16] & ok[20] & seller.birth,
-        ok[16] & seller.shape,
+        ok[11] & ok[28] & f.parties.buyer.late,
+        ok[12] & ok[28] & f.parties.buyer_for.lei,
+        ok[12] & ok[28] & f.parties.buyer_for.country,
+        ok[12] & ok[15] & f.parties.buyer_for.birth,
+        ok[12] & f.parties.buyer_for.shape,
+        ok[15] & ok[28] & f.parties.buyer_for.late,
+        ok[16] & ok[28] & f.parties.seller.lei,
+        ok[16] & ok[28] & f.parties.seller.country,
+        ok[16] & ok[28] & f.parties.seller.mic,
+        ok[16] & ok[20] & f.parties.seller.birth,
+        ok[16] & f.parties.seller.shape,
     ];
     verdict::place(base, 12, &group)
 }
@@ -65,25 +57,19 @@ pub fn seller_and_time(base: [bool; CODE_COUNT], f: Facts) -> [bool; CODE_COUNT]
     ensures { (c : Call) → is_new c.line ≡ true → f ≡ facts_of c → result ≡ put base 24 (map (given c) rules3) }
 {
     let ok = f.ok;
-    let entity = f.entity;
-    let parties = f.parties;
-    let seller = parties.seller;
-    let seller_for = parties.seller_for;
-    let time = f.time;
-    let deal = f.deal;
     let group = [
         ok[17] & ok[28] & f.country17,
-        ok[20] & ok[28] & seller.late,
-        ok[21] & ok[28] & seller_for.lei,
-        ok[21] & ok[28] & seller_for.country,
-        ok[21] & ok[24] & seller_for.birth,
-        ok[21] & seller_for.shape,
-        ok[24] & ok[28] & seller_for.late,
-        ok[29] & ok[25] & deal.transmitted,
-        ok[26] & ok[28] & entity.buyers_firm,
-        ok[27] & ok[28] & entity.sellers_firm,
-        ok[28] & time.not_before,
-        ok[28] & time.too_old,
+        ok[20] & ok[28] & f.parties.seller.late,
+        ok[21] & ok[28] & f.parties.seller_for.lei,
+        ok[21] & ok[28] & f.parties.seller_for.country,
+        ok[21] & ok[24] & f.parties.seller_for.birth,
+        ok[21] & f.parties.seller_for.shape,
+        ok[24] & ok[28] & f.parties.seller_for.late,
+        ok[29] & ok[25] & f.deal.transmitted,
+        ok[26] & ok[28] & f.entity.buyers_firm,
+        ok[27] & ok[28] & f.entity.sellers_firm,
+        ok[28] & f.time.not_before,
+        ok[28] & f.time.too_old,
     ];
     verdict::place(base, 24, &group)
 }

@@ -29,9 +29,9 @@ three cxl ok absent cancelled any =
 pub returns : goal.returns
 unfolding good_cells lei_fit all_flags
 returns c = λ lei cty ccy ven ins register day micro polish fit stands.
-    let l = c.args.line.now in
+    let l = c.args.split.now.line.now in
     let k = call l lei cty ccy ven ins register day micro polish in
-    let new = c.requires.1 in
+    let new = c.requires in
     let cxl : c.same-cxl.result ≡ is_cxl l = c.same-cxl.ensures ∙ ap (same (ascii "CXL")) c.cell.ensures in
     let ok : c.good_cells-ok.result ≡ good_cells l = c.good_cells-ok.ensures ∙ ap (λ (found : List Bool). false ∷ map not found) c.other_findings-forms.ensures in
     let absent = c.is_absent.ensures ∙ ap is_absent stands in

@@ -13,33 +13,33 @@ use Rattle.rules.proofs.ByStatus.{three, polish_asked, polish_unasked, polish_pu
 use Rattle.rules.proofs.lines.when_new.Goals as goal
 
 pub new_findings-forms-requires : goal.new_findings-forms-requires
-new_findings-forms-requires c = (c.requires.0, c.requires.1, new_status _ c.requires.2)
+new_findings-forms-requires c = new_status _ c.requires
 
 pub line_facts-f-requires : goal.line_facts-f-requires
-line_facts-f-requires c = (c.requires.0, c.new_findings-forms.ensures, c.requires.1)
+line_facts-f-requires c = c.new_findings-forms.ensures
 
 pub returns-then-not-polish : goal.returns-then-not-polish
 unfolding all_flags
 returns-then-not-polish c = λ lei cty ccy ven ins register asked stands.
     let a = c.args in
-    let l = a.line.now in
-    let k = call l lei cty ccy ven ins register a.day a.micro a.polish in
-    let facts = c.line_facts-f.ensures ∙ (λ j. facts_from l (c.requires.1 j) (asked j) (stands j) a.day a.micro) ∙ facts_from_lem k in
-    c.by_facts-found.ensures k c.requires.2 facts c.new_findings-forms.ensures
-    ∙ (λ i. flags k ++ (form_findings l ++ polish_unasked k c.requires.2 c.if-not-polish.true i))
+    let l = a.line.now.split.now.line.now in
+    let k = call l lei cty ccy ven ins register a.submitted.day a.submitted.micro a.polish in
+    let facts = c.line_facts-f.ensures ∙ (λ j. facts_from l (a.line.now.told j) (asked j) (stands j) a.submitted.day a.submitted.micro) ∙ facts_from_lem k in
+    c.by_facts-found.ensures k c.requires facts c.new_findings-forms.ensures
+    ∙ (λ i. flags k ++ (form_findings l ++ polish_unasked k c.requires c.if-not-polish.true i))
 
 -- the good cells of the facts
 pub polish_facts-p-requires : goal.polish_facts-p-requires
 unfolding facts_from good_cells
-polish_facts-p-requires c = (c.requires.0, c.requires.1, ap (λ (f : Facts). f.ok) c.line_facts-f.ensures)
+polish_facts-p-requires c = ap (λ (f : Facts). f.ok) c.line_facts-f.ensures
 
 pub returns : goal.returns
 unfolding all_flags
 returns c = λ lei cty ccy ven ins register asked stands.
     let a = c.args in
-    let l = a.line.now in
-    let k = call l lei cty ccy ven ins register a.day a.micro a.polish in
-    let facts = c.line_facts-f.ensures ∙ (λ j. facts_from l (c.requires.1 j) (asked j) (stands j) a.day a.micro) ∙ facts_from_lem k in
-    let found = c.by_facts-found.ensures k c.requires.2 facts c.new_findings-forms.ensures in
-    let given = ap three c.polish_facts-p.ensures ∙ polish_asked k c.requires.2 c.if-not-polish.false in
+    let l = a.line.now.split.now.line.now in
+    let k = call l lei cty ccy ven ins register a.submitted.day a.submitted.micro a.polish in
+    let facts = c.line_facts-f.ensures ∙ (λ j. facts_from l (a.line.now.told j) (asked j) (stands j) a.submitted.day a.submitted.micro) ∙ facts_from_lem k in
+    let found = c.by_facts-found.ensures k c.requires facts c.new_findings-forms.ensures in
+    let given = ap three c.polish_facts-p.ensures ∙ polish_asked k c.requires c.if-not-polish.false in
     c.place.ensures ∙ (λ i. put (found i) base_count (given i)) ∙ polish_put k
