@@ -4,11 +4,9 @@ use mathlib.Core.Bool.{Bool, true, false}
 use mathlib.Core.List.{List, [], ◌∷◌, ◌++◌}
 use Prim.Native.Nat.{ℕ, zero, suc, ◌+◌, ◌<◌, ◌≤◌}
 use native.Mathlib.Nat.{add-zero}
-use native.Mathlib.Numerals.{add-one}
 use native.Mathlib.Omega.{arith}
-use lib.ListN.{length, get_or, drop, drop_of_length-le}
+use lib.ListN.{length, get_or}
 use Rattle.text.specs.FirstFrom.{first_from}
-use Rattle.text.proofs.Lists.{rest_at}
 
 -- none of the first row holds: the second decides
 pub passed : (n : ℕ) (xs ys : List Bool) → first_from (suc n) xs ≡ 0 → first_from (suc n) (xs ++ ys) ≡ first_from (suc n + length xs) ys
@@ -40,24 +38,3 @@ unfolding first_from
 first_small n [] = omega arith
 first_small n (true ∷ tests) = omega arith
 first_small n (false ∷ tests) = omega (arith, first_small (suc n) tests)
-
--- no test before place i holds
-pub record NoneSoFar (tests : List Bool) (i : ℕ) : Type 0 where
-  pub within : i ≤ length tests
-  pub left : first_from 1 tests ≡ first_from (i + 1) (drop i tests)
-
-pub none_start : {tests : List Bool} → NoneSoFar tests 0
-none_start = record { within = omega arith; left = refl }
-
-module _ {tests : List Bool} {i : ℕ} (so_far : NoneSoFar tests i) where
-  pub none_on : i < length tests → get_or tests i false ≡ false → NoneSoFar tests (i + 1)
-  unfolding first_from
-  none_on h e = record { within = omega arith; left = so_far.left ∙ rw (rest_at false tests i h, e, add-one (i + 1)) }
-
-  pub none_hit : i < length tests → get_or tests i false ≡ true → i + 1 ≡ first_from 1 tests
-  unfolding first_from
-  none_hit h e = rw (so_far.left, rest_at false tests i h, e)
-
-  pub none_end : length tests ≤ i → 0 ≡ first_from 1 tests
-  unfolding first_from
-  none_end h = rw (so_far.left, drop_of_length-le tests h)

@@ -17,6 +17,9 @@ use Rattle.verdict.specs.Codes.{entries_needed}
 use Rattle.verdict.specs.Verdict.{codes_found, verdict_of, refused_by}
 use Rattle.verdict.specs.Bits.{listed_by}
 use Rattle.verdict.proofs.WordLaws.{verdict_lists}
+use Rattle.judge.specs.Answer.{number}
+use Rattle.judge.specs.declared.refusals.Refusal.{Refusal}
+use Rattle.judge.specs.declared.refusals.Refusal.TheVariants.{LeiList, CtyList, CcyList, VenList, InsList, Register, Moment, Findings, Length, Cells, Full}
 use Rattle.judge.specs.Refusal.{clean, early, not_whole, no_room}
 use Rattle.judge.specs.Outcome.{written, refused_outcome, outcome, Judged}
 use Rattle.judge.proofs.Firsts.{none_holds}
@@ -26,6 +29,19 @@ use Rattle.judge.proofs.Cases.{out_early, out_ten, out_eleven, out_judged}
 nothing : (l : List ℕ) → length l ≡ 0 → l ≡ []
 nothing [] e = refl
 nothing (x ∷ l) e = absurd (omega arith)
+
+pub number_some : (r : Refusal) → number r ≡ 0 → ⊥
+number_some LeiList e = omega arith
+number_some CtyList e = omega arith
+number_some CcyList e = omega arith
+number_some VenList e = omega arith
+number_some InsList e = omega arith
+number_some Register e = omega arith
+number_some Moment e = omega arith
+number_some Findings e = omega arith
+number_some Length e = omega arith
+number_some Cells e = omega arith
+number_some Full e = omega arith
 
 module _ (c : Call) (before : List ℕ) where
   refused_as : (m : ℕ) {v : Verdict} → outcome c (length before) ≡ refused_outcome c m → v ≡ refused_by m

@@ -2,74 +2,37 @@
 #![tactic(auto)]
 
 ghost use Rattle.std.specs.Prelude.{◌≡◌, cond, List, ℕ, length};
-ghost use Rattle.text.specs.FirstFrom.{first_from};
-ghost use Rattle.cells.specs.Split.{Tabled};
 ghost use Rattle.register.specs.Frame.{row_width};
 ghost use Rattle.register.specs.Written.{set_live, set_cancelled};
 ghost use Rattle.facts.specs.Call.{call};
 ghost use Rattle.facts.specs.Rules.{pair_stands, all_flags};
-ghost use Rattle.judge.specs.Refusal.{early};
+ghost use Rattle.judge.specs.Answer.{answered};
 ghost use Rattle.judge.specs.Outcome.{pair_of, outcome, Judged};
 
-use lists::Mark;
-use register::{Found, Standing};
+mod refusals;
+
+use crate::refusals::{Refusal, check_call, number};
+use calendar::Moment;
+use cells::SplitLine;
+use lists::Lists;
+use register::Standing;
 use verdict::{CODE_COUNT, Verdict};
 
-// The number of the first test that holds, counted from 1; 0 where none does.
-fn first_of(tests: [bool; 9]) -> u16
-    ensures { result ≡ first_from 1 tests }
+fn pair_of(split: &SplitLine) -> [u8; 73]
+    ensures { result ≡ pair_of split.now.line.now }
 {
-    let mut i = 0;
-    while i < 9 {
-        if tests[i] {
-            return i as u16 + 1;
-        }
-        i += 1;
-    }
-    0
-}
-
-// Refusals 1 to 9, over a register whose rows have that width. Each test is short, so all are made.
-fn early_refusal(
-    line: &[u8],
-    lei: &[u8],
-    cty: &[u8],
-    ccy: &[u8],
-    ven: &[u8],
-    ins: &[u8],
-    width: usize,
-    day: u32,
-    micro: u64,
-    polish: bool,
-    room: usize,
-) -> u16
-    ensures { (register : List ℕ) → width ≡ row_width register → result ≡ first_from 1 (early (call line.now lei.now cty.now ccy.now ven.now ins.now register day micro polish) room) }
-{
-    first_of([
-        !lists::framed(Mark::Lei, lei),
-        !lists::framed(Mark::Cty, cty),
-        !lists::framed(Mark::Ccy, ccy),
-        !lists::framed(Mark::Ven, ven),
-        !lists::framed(Mark::Ins, ins),
-        width == 0,
-        !calendar::is_moment(day, micro),
-        room < verdict::entries_needed(polish),
-        4096 < line.len(),
-    ])
-}
-
-fn pair_of<'a, 't>(line: &'a [u8], starts: &'t [usize; 65], ends: &'t [usize; 65]) -> [u8; 73]
-    requires { Tabled line.now starts.now ends.now }
-    ensures { result ≡ pair_of line.now }
-{
-    register::pair_bytes(
-        cells::cell(line, starts, ends, 4),
-        cells::cell(line, starts, ends, 2),
-    )
+    register::pair_bytes(split.cell(4), split.cell(2))
 }
 
 // The register once a line is accepted.
-fn settle(register: &mut [u8], width: usize, new: bool, found: Found, pair: &[u8; 73], day: u32)
+fn settle(
+    register: &mut [u8],
+    width: usize,
+    new: bool,
+    found: Option<usize>,
+    pair: &[u8; 73],
+    day: u32,
+)
     requires { width ≡ row_width register.old }
     ensures { register.new ≡ cond new (set_live register.old found pair.now day) (set_cancelled register.old found day) }
 {
@@ -81,34 +44,58 @@ fn settle(register: &mut [u8], width: usize, new: bool, found: Found, pair: &[u8
 }
 
 // The flags of a line: of one that is NEW all is read and asked, of another its submitting entity only.
-fn flags_of<'a, 't>(
-    line: &'a [u8],
-    starts: &'t [usize; 65],
-    ends: &'t [usize; 65],
-    lei: &[u8],
-    cty: &[u8],
-    ccy: &[u8],
-    ven: &[u8],
-    ins: &[u8],
+fn flags_of(
+    split: &SplitLine,
+    lists: &Lists,
     standing: Standing,
-    day: u32,
-    micro: u64,
+    submitted: Moment,
     polish: bool,
 ) -> [bool; CODE_COUNT]
-    requires { Tabled line.now starts.now ends.now }
-    ensures { (register : List ℕ) → standing ≡ pair_stands register line.now → result ≡ all_flags (call line.now lei.now cty.now ccy.now ven.now ins.now register day micro polish) }
+    ensures { (register : List ℕ) → standing ≡ pair_stands register split.now.line.now → result ≡ all_flags (call split.now.line.now lists.now.lei.now lists.now.cty.now lists.now.ccy.now lists.now.ven.now lists.now.ins.now register submitted.day submitted.micro polish) }
 {
-    if text::same(cells::cell(line, starts, ends, 1), b"NEW") {
-        let read = forms::read_cells(line, starts, ends);
-        let asked = asked::ask(line, starts, ends, read, lei, cty, ccy, ven, ins, day);
-        return rules::when_new(
-            line, starts, ends, read, asked, standing, day, micro, polish,
-        );
+    if text::same(split.cell(1), b"NEW") {
+        let line = forms::read_cells(split);
+        let asked = asked::ask(split, &line.read, lists, submitted.day);
+        return rules::when_new(&line, asked, standing, submitted, polish);
     }
-    let submitting = asked::lei_fit(lei, cells::cell(line, starts, ends, 6), day);
-    rules::unless_new(line, starts, ends, submitting, standing)
+    let submitting = asked::lei_fit(lists.lei, split.cell(6), submitted.day);
+    rules::unless_new(split, submitting, standing)
 }
 
+// The verdict on a line, or why it is refused.
+fn judge_line(
+    line: &[u8],
+    lists: &Lists,
+    register: &mut [u8],
+    submitted: Moment,
+    polish: bool,
+    findings: &mut [u16],
+) -> Result<Verdict, Refusal>
+    ensures { Judged (outcome (call line.now lists.now.lei.now lists.now.cty.now lists.now.ccy.now lists.now.ven.now lists.now.ins.now register.old submitted.day submitted.micro polish) (length findings.old)) findings.old (answered result) findings.new register.new }
+{
+    let width = register::row_width(register);
+    check_call(line, lists, width, submitted, polish, findings.len())?;
+    let Some(split) = cells::split(line) else {
+        return Err(Refusal::Cells);
+    };
+    let pair = pair_of(&split);
+    let found = register::find(register, width, &pair);
+    let standing = register::standing_at(register, width, found);
+    let flags = flags_of(&split, lists, standing, submitted, polish);
+    let verdict = verdict::judged(&flags);
+    if verdict.count != 0 {
+        verdict::list_by_words(verdict.words, findings);
+        return Ok(verdict);
+    }
+    let new = text::same(split.cell(1), b"NEW");
+    if new & facts::is_absent(standing) & register::full(register, width) {
+        return Err(Refusal::Full);
+    }
+    settle(register, width, new, found, &pair, submitted.day);
+    Ok(verdict)
+}
+
+// The parameters are those of the call that a host makes.
 pub fn judge(
     line: &[u8],
     lei: &[u8],
@@ -124,54 +111,16 @@ pub fn judge(
 ) -> Verdict
     ensures { Judged (outcome (call line.now lei.now cty.now ccy.now ven.now ins.now register.old day micro polish) (length findings.old)) findings.old result findings.new register.new }
 {
-    let width = register::row_width(register);
-    let no = early_refusal(
-        line,
+    let lists = Lists {
         lei,
         cty,
         ccy,
         ven,
         ins,
-        width,
-        day,
-        micro,
-        polish,
-        findings.len(),
-    );
-    if no != 0 {
-        return verdict::refused(no);
+    };
+    let submitted = Moment { day, micro };
+    match judge_line(line, &lists, register, submitted, polish, findings) {
+        Ok(verdict) => verdict,
+        Err(refusal) => verdict::refused(number(refusal)),
     }
-    let table = cells::split(line);
-    if !table.whole {
-        return verdict::refused(10);
-    }
-    let pair = pair_of(line, &table.starts, &table.ends);
-    let found = register::find(register, width, &pair);
-    let standing = register::standing_at(register, width, found);
-    let flags = flags_of(
-        line,
-        &table.starts,
-        &table.ends,
-        lei,
-        cty,
-        ccy,
-        ven,
-        ins,
-        standing,
-        day,
-        micro,
-        polish,
-    );
-    let verdict = verdict::judged(&flags);
-    if verdict.count != 0 {
-        let words = verdict.words;
-        verdict::list_by_words(words, findings);
-        return verdict;
-    }
-    let new = text::same(cells::cell(line, &table.starts, &table.ends, 1), b"NEW");
-    if new & facts::is_absent(standing) & register::full(register, width) {
-        return verdict::refused(11);
-    }
-    settle(register, width, new, found, &pair, day);
-    verdict
 }
