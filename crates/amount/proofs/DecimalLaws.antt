@@ -1,13 +1,18 @@
 -- Decimals: where the point stands, how many digits there can be, and that their number fits.
-use mathlib.Core.Path.{◌≡◌, ◌∙◌, sym, ap}
+use mathlib.Core.Path.{◌≡◌, ◌∙◌, refl, sym, ap}
 use mathlib.Core.Bool.{Bool, true, false, cond, ◌&&◌, ◌||◌}
 use mathlib.Core.List.{List, [], ◌∷◌}
 use mathlib.Core.Logic.{⊎_elim}
 use Prim.Native.Nat.{ℕ, suc, ◌+◌, ◌-◌, ◌^◌, ◌≤◌, ◌<◌}
 use native.Mathlib.Omega.{arith}
-use borrow.Author.Tests.{eq-eqb, ne_eqb, eqb-true, leb-true}
-use lib.Dec.{leb, eqb, lit<}
+use borrow.Author.Tests.{eq-eqb, ne_eqb, eqb-true, leb-true, ltb-false}
+use lib.Dec.{leb, ltb, eqb, lit<}
 use lib.ListN.{length, get_or, take, drop, length-append, length-take, length-drop, drop_of_length-le}
+use Rattle.std.specs.Prelude.{◌==◌}
+use Rattle.std.specs.List.{position_or_len}
+use Rattle.std.specs.Option.{unwrap_or}
+use Rattle.std.proofs.Common.{Some, None}
+use Rattle.std.proofs.lemmas.List.Recursion.{is_position_or_len}
 use Rattle.text.specs.declared.classes.Class.TheVariants.{Digit}
 use Rattle.text.specs.Class.{is, run_of}
 use Rattle.text.specs.Number.{number_of}
@@ -27,28 +32,17 @@ point_within (b ∷ s) = go (is "." b) (point_within s)
     go true h = omega arith
     go false h = omega arith
 
--- no point stands before place i
-pub record NoPointSoFar (s : List ℕ) (i : ℕ) : Type 0 where
-  pub within : i ≤ length s
-  pub left : point_at s ≡ i + point_at (drop i s)
+-- the point is the first byte that is one, and where there is none the length stands in its place
+point_first : (s : List ℕ) → point_at s ≡ position_or_len (λ b. b == 46) s
+unfolding point_at
+point_first = is_position_or_len point_at (λ b. b == 46) refl (λ b s. grind arith)
 
-pub point_start : {s : List ℕ} → NoPointSoFar s 0
-point_start {s} = record { within = omega arith; left = omega arith }
-
-module _ {s : List ℕ} {i : ℕ} (so_far : NoPointSoFar s i) where
-  pub point_here : i < length s → get_or s i 0 ≡ 46 → i ≡ point_at s
-  unfolding point_at
-  point_here h e = let z : point_at (drop i s) ≡ 0 = rw (rest_at 0 s i h, eq-eqb _ _ e) in omega (arith, so_far.left)
-
-  pub point_on : i < length s → (get_or s i 0 ≡ 46 → ⊥) → NoPointSoFar s (i + 1)
-  unfolding point_at
-  point_on h e =
-      let z : point_at (drop i s) ≡ suc (point_at (drop (i + 1) s)) = rw (rest_at 0 s i h, ne_eqb _ _ e) in
-      record { within = omega arith; left = omega (arith, so_far.left) }
-
-  pub point_none : length s ≤ i → i ≡ point_at s
-  unfolding point_at
-  point_none h = let z : point_at (drop i s) ≡ 0 = rw (drop_of_length-le s h) in omega (arith, so_far.left)
+pub point_found : (s : List ℕ) → unwrap_or (cond (ltb (position_or_len (λ b. b == 46) s) (length s)) (Some (position_or_len (λ b. b == 46) s)) None) (length s) ≡ point_at s
+point_found s = rw (sym (point_first s)) (go (ltb (point_at s) (length s)) refl)
+  where
+    go : (t : Bool) → ltb (point_at s) (length s) ≡ t → unwrap_or (cond t (Some (point_at s)) None) (length s) ≡ point_at s
+    go true e = refl
+    go false e = omega (arith, point_within s, ltb-false (point_at s) (length s) e)
 
 -- a number of at most 18 digits, and what `number_of` gives for more, is below 10 ^ 18
 pub number_below : (s : List ℕ) → number_of s < 10 ^ 18

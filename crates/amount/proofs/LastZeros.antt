@@ -47,35 +47,22 @@ no_longer (b ∷ s) = go (is "0" b && blank (without_last_zeros s)) (no_longer s
     go true h = omega arith
     go false h = omega arith
 
--- behind place `end` stand zeros only
-pub record ZerosFrom (s : List ℕ) (end : ℕ) : Type 0 where
-  pub within : end ≤ length s
-  pub left : without_last_zeros (take end s) ≡ without_last_zeros s
+-- by the last byte: a zero goes, anything else stays, and where there is none nothing does
+module _ (s : List ℕ) where
+  at_last : 1 ≤ length s → s ≡ take (length s - 1) s ++ get_or s (length s - 1) 0 ∷ []
+  at_last h =
+      let e : length s ≡ suc (length s - 1) = omega arith in
+      sym (take-length s) ∙ ap (λ (n : ℕ). take n s) e ∙ take-suc s (length s - 1) 0 (omega arith)
 
-pub zeros_start : {s : List ℕ} → ZerosFrom s (length s)
-zeros_start {s} = record { within = omega arith; left = rw take-length }
+  pub zero_goes : 1 ≤ length s → get_or s (length s - 1) 0 ≡ 48 → without_last_zeros (take (length s - 1) s) ≡ without_last_zeros s
+  zero_goes h e = sym (last_zero (take (length s - 1) s)) ∙ ap without_last_zeros (ap (λ (b : ℕ). take (length s - 1) s ++ b ∷ []) (sym e) ∙ sym (at_last h))
 
-module _ {s : List ℕ} {end : ℕ} (so_far : ZerosFrom s end) where
-  last_at : 0 < end → take end s ≡ take (end - 1) s ++ get_or s (end - 1) 0 ∷ []
-  last_at h =
-      let e : end ≡ suc (end - 1) = omega arith in
-      ap (λ (n : ℕ). take n s) e ∙ take-suc s (end - 1) 0 (omega (arith, so_far.within))
+  pub other_stays : 1 ≤ length s → (get_or s (length s - 1) 0 ≡ 48 → ⊥) → s ≡ without_last_zeros s
+  other_stays h e = at_last h ∙ sym (last_other (take (length s - 1) s) (get_or s (length s - 1) 0) e) ∙ ap without_last_zeros (sym (at_last h))
 
-  pub zeros_on : 0 < end → get_or s (end - 1) 0 ≡ 48 → ZerosFrom s (end - 1)
-  zeros_on h e =
-      record {
-        within = omega (arith, so_far.within);
-        left = sym (last_zero (take (end - 1) s)) ∙ ap without_last_zeros (ap (λ (b : ℕ). take (end - 1) s ++ b ∷ []) (sym e) ∙ sym (last_at h)) ∙ so_far.left;
-      }
-
-  pub zeros_stop : 0 < end → (get_or s (end - 1) 0 ≡ 48 → ⊥) → take end s ≡ without_last_zeros s
-  zeros_stop h e = last_at h ∙ sym (last_other (take (end - 1) s) (get_or s (end - 1) 0) e) ∙ ap without_last_zeros (sym (last_at h)) ∙ so_far.left
-
-  pub zeros_only : end ≤ 0 → take 0 s ≡ without_last_zeros s
+  pub none_stays : length s < 1 → s ≡ without_last_zeros s
   unfolding without_last_zeros
-  zeros_only h =
-      let e : end ≡ 0 = omega arith in
-      rw e at so_far.left
+  none_stays h = let e : s ≡ [] = empty s (omega arith) in rw e
 
 -- written behind v, the digits without their last zeros and all of them stand for one value
 pub nothing_lost : (v : ℕ) (s : List ℕ) → numeral v (without_last_zeros s) * 10 ^ length s ≡ numeral v s * 10 ^ length (without_last_zeros s)

@@ -47,17 +47,11 @@ pub enum Quantity {
 }
 
 // The place of the first point, or the length where there is none.
+#[tactic(auto, using(crate::proofs::DecimalLaws::point_found))]
 fn point_at(s: &[u8]) -> usize
     ensures { result ≡ point_at s.now }
 {
-    let mut i = 0;
-    while i < s.len() {
-        if s[i] == b'.' {
-            return i;
-        }
-        i += 1;
-    }
-    i
+    s.iter().position(|&b| b == b'.').unwrap_or(s.len())
 }
 
 // D(n, f, m).
@@ -75,17 +69,15 @@ pub fn is_decimal(s: &[u8], n: usize, f: usize, m: usize) -> bool
 }
 
 // Zeros at the end of decimals say nothing. They are looked for from the end, where most decimals have none.
+#[tactic(auto, using(crate::proofs::LastZeros::zero_goes, crate::proofs::LastZeros::other_stays, crate::proofs::LastZeros::none_stays))]
 fn without_last_zeros(s: &[u8]) -> &[u8]
     ensures { result.now ≡ without_last_zeros s.now }
 {
-    let mut end = s.len();
-    while 0 < end {
-        if s[end - 1] != b'0' {
-            return text::head(s, end);
-        }
-        end -= 1;
+    let mut left = s;
+    while let [front @ .., b'0'] = left {
+        left = front;
     }
-    text::head(s, 0)
+    left
 }
 
 // At the document's widths there are never more than 18 digits: with a point among them, 19 bytes hold no more.
@@ -105,13 +97,14 @@ fn value_of(s: &[u8]) -> Decimal
 }
 
 // What follows the one + or - that an amount may open with.
+#[tactic(auto, unfolding(crate::specs::Signed::behind_sign, text::specs::Word::starts_with))]
 fn behind_sign(s: &[u8]) -> &[u8]
     ensures { result.now ≡ behind_sign s.now }
 {
-    if text::starts_with(s, b"+") | text::starts_with(s, b"-") {
-        return text::rest(s, 1);
+    match s {
+        [b'+' | b'-', size @ ..] => size,
+        _ => s,
     }
-    s
 }
 
 // Below zero for a minus. Behind it there are at most 18 digits, so the negation is exact at both ends, and zero has no sign.

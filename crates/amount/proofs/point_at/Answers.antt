@@ -1,15 +1,10 @@
-use Rattle.amount.proofs.DecimalLaws.{point_start, point_here, point_on, point_none}
-use native.Mathlib.Omega.{arith}
+use Rattle.std.proofs.Common.{rules, tests, ◌==◌, ◌∙◌}
+use Rattle.std.proofs.lemmas.Iterator.{YieldsList-from_slice}
+use Rattle.std.proofs.lemmas.Iterator.Search.{position_from_yields_List}
+use Rattle.amount.proofs.DecimalLaws.{point_found}
 use Rattle.amount.proofs.point_at.Goals as goal
 
-pub loop-i-init : goal.loop-i-init
-loop-i-init c = point_start
-
-pub returns-then-s-i-eq46 : goal.returns-then-s-i-eq46
-returns-then-s-i-eq46 c = point_here c.loop-i.invariant (omega arith) c.if-s-i-eq46.true
-
-pub loop-i-preserved : goal.loop-i-preserved
-loop-i-preserved c = point_on c.loop-i.invariant (omega arith) c.if-s-i-eq46.false
-
 pub returns : goal.returns
-returns c = point_none c.loop-i.invariant (omega arith)
+returns c =
+    let e = position_from_yields_List (λ b. b == 46) _ _ c.position.result c.position.ensures.ran (YieldsList-from_slice c.args.s.now cc) (λ x b q k. search (rules, tests)) in
+    (rw e at c.unwrap_or.ensures) ∙ point_found c.args.s.now
