@@ -4,9 +4,9 @@
 #![tactic(auto)]
 
 ghost use Rattle.std.specs.Prelude.{◌≡◌, ◌≤◌, length};
-ghost use Rattle.amount.specs.Decimal.{point_at, digits_of, is_decimal, without_last_zeros, value_of, tagged};
-ghost use Rattle.amount.specs.Signed.{behind_sign, signed_value_of, signed_of, signed_kind};
-ghost use Rattle.amount.specs.Price.{money_of, price_of, price_kind};
+ghost use Rattle.amount.specs.Decimal.{point_at, digits_of, is_decimal, without_last_zeros, value_of, value_in, value_behind};
+ghost use Rattle.amount.specs.Signed.{behind_sign, signed_of, signed_kind};
+ghost use Rattle.amount.specs.Price.{price_of, price_kind};
 ghost use Rattle.amount.specs.Quantity.{units_of, quantity_of, quantity_kind};
 
 use text::Class;
@@ -107,51 +107,75 @@ fn behind_sign(s: &[u8]) -> &[u8]
     }
 }
 
-// Below zero for a minus. Behind it there are at most 18 digits, so the negation is exact at both ends, and zero has no sign.
-fn signed_value_of(s: &[u8]) -> Decimal
-    requires { length (digits_of (behind_sign s.now)) ≤ 18 }
-    ensures { result ≡ signed_value_of s.now }
-{
-    let d = value_of(behind_sign(s));
-    if text::starts_with(s, b"-") {
-        return Decimal {
-            mantissa: -d.mantissa,
-            places: d.places,
-        };
-    }
-    d
+// D(n, f, m) at a width in use: n and m are such that it holds at most 18 digits.
+#[derive(Clone, Copy)]
+struct Width {
+    n: usize,
+    f: usize,
+    m: usize,
+    ghost few: { n ≤ 18 },
+    ghost short: { m ≤ 19 },
 }
 
+impl Width {
+    #[tactic(auto, using(crate::proofs::DecimalLaws::few_digits))]
+    fn value_in(self, s: &[u8]) -> Option<Decimal>
+        ensures { result ≡ value_in self.n self.f self.m s.now }
+    {
+        if !is_decimal(s, self.n, self.f, self.m) {
+            return None;
+        }
+        Some(value_of(s))
+    }
+
+    // What stands behind a kind's word with its colon.
+    #[tactic(auto, unfolding(crate::specs::Decimal::tagged))]
+    fn value_behind(self, word: &[u8], s: &[u8]) -> Option<Decimal>
+        ensures { result ≡ value_behind word.now self.n self.f self.m s.now }
+    {
+        if !text::starts_with(s, word) {
+            return None;
+        }
+        self.value_in(text::rest(s, word.len()))
+    }
+}
+
+const PERCENT: Width = Width {
+    n: 11,
+    f: 10,
+    m: 19,
+};
+const YIELD: Width = Width {
+    n: 11,
+    f: 10,
+    m: 12,
+};
+// Of basis points and of units.
+const FRACTION: Width = Width {
+    n: 18,
+    f: 17,
+    m: 19,
+};
+const MONEY: Width = Width { n: 18, f: 5, m: 19 };
+
 // D(18, f, 19) that may open with one + or -, which is not counted, read to its value: f is 5 for cell 38 and 13 behind MV:.
+// Below zero for a minus. Of at most 18 digits the negation is exact at both ends, and zero has no sign.
 pub fn parse_signed(s: &[u8], f: usize) -> Option<Decimal>
     ensures { result ≡ signed_of f s.now }
 {
-    if !is_decimal(behind_sign(s), 18, f, 19) {
-        return None;
-    }
-    Some(signed_value_of(s))
-}
-
-// A kind's word with its colon, and a decimal behind it.
-fn tagged(s: &[u8], word: &[u8], n: usize, f: usize, m: usize) -> bool
-    ensures { result ≡ tagged word.now n f m s.now }
-{
-    if !text::starts_with(s, word) {
-        return false;
-    }
-    is_decimal(text::rest(s, word.len()), n, f, m)
-}
-
-fn money_of(signed: Option<Decimal>) -> Price
-    ensures { result ≡ money_of signed }
-{
-    match signed {
-        Some(d) => Price::Money(d),
-        None => Price::Malformed,
+    let width = Width { n: 18, f, m: 19 };
+    let d = width.value_in(behind_sign(s))?;
+    match s {
+        [b'-', ..] => Some(Decimal {
+            mantissa: -d.mantissa,
+            ..d
+        }),
+        _ => Some(d),
     }
 }
 
 // Cells 33 and 51.
+#[tactic(auto, unfolding(crate::specs::Price::price_of))]
 pub fn parse_price(s: &[u8]) -> Price
     ensures { result ≡ price_of s.now }
 {
@@ -161,17 +185,17 @@ pub fn parse_price(s: &[u8]) -> Price
     if text::same(s, b"NOAP") {
         return Price::NotApplicable;
     }
-    if tagged(s, b"PC:", 11, 10, 19) {
-        return Price::Percent(value_of(text::rest(s, 3)));
+    if let Some(d) = PERCENT.value_behind(b"PC:", s) {
+        return Price::Percent(d);
     }
     if text::starts_with(s, b"MV:") {
-        return money_of(parse_signed(text::rest(s, 3), 13));
+        return parse_signed(text::rest(s, 3), 13).map_or(Price::Malformed, Price::Money);
     }
-    if tagged(s, b"YLD:", 11, 10, 12) {
-        return Price::Yield(value_of(text::rest(s, 4)));
+    if let Some(d) = YIELD.value_behind(b"YLD:", s) {
+        return Price::Yield(d);
     }
-    if tagged(s, b"BP:", 18, 17, 19) {
-        return Price::BasisPoints(value_of(text::rest(s, 3)));
+    if let Some(d) = FRACTION.value_behind(b"BP:", s) {
+        return Price::BasisPoints(d);
     }
     Price::Malformed
 }
@@ -187,17 +211,18 @@ fn units_of(d: Decimal) -> Quantity
 }
 
 // Cell 30.
+#[tactic(auto, unfolding(crate::specs::Quantity::quantity_of))]
 pub fn parse_quantity(s: &[u8]) -> Quantity
     ensures { result ≡ quantity_of s.now }
 {
-    if tagged(s, b"UNT:", 18, 17, 19) {
-        return units_of(value_of(text::rest(s, 4)));
+    if let Some(d) = FRACTION.value_behind(b"UNT:", s) {
+        return units_of(d);
     }
-    if tagged(s, b"NOM:", 18, 5, 19) {
-        return Quantity::Nominal(value_of(text::rest(s, 4)));
+    if let Some(d) = MONEY.value_behind(b"NOM:", s) {
+        return Quantity::Nominal(d);
     }
-    if tagged(s, b"MON:", 18, 5, 19) {
-        return Quantity::Monetary(value_of(text::rest(s, 4)));
+    if let Some(d) = MONEY.value_behind(b"MON:", s) {
+        return Quantity::Monetary(d);
     }
     Quantity::Malformed
 }

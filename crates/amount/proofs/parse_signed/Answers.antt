@@ -1,26 +1,18 @@
-use mathlib.Core.Path.{◌≡◌, ◌∙◌, refl, sym, ap}
-use mathlib.Core.List.{List}
-use Prim.Native.Nat.{ℕ}
-use lib.Dec.{lit≤}
-use Rattle.text.proofs.Bools.{cond_yes, cond_no}
-use Rattle.std.proofs.Common.{Some}
-use Rattle.amount.specs.Decimal.{is_decimal}
-use Rattle.amount.specs.Signed.{behind_sign, is_signed, signed_of}
-use Rattle.amount.proofs.DecimalLaws.{few_signed}
+use Rattle.std.proofs.Common.{arith, ◌∙◌}
+use Rattle.amount.proofs.SignLaws.{no_amount, minus_room, below_zero, not_below}
 use Rattle.amount.proofs.parse_signed.Goals as goal
 
--- what the calls tell of the test
-told : (f : ℕ) (s : List ℕ) {rest : List ℕ} → rest ≡ behind_sign s → is_decimal 18 f 19 rest ≡ is_signed 18 f 19 s
-unfolding is_signed
-told f s e = ap (λ (t : List ℕ). is_decimal 18 f 19 t) e
+pub returns-in_err-d : goal.returns-in_err-d
+returns-in_err-d c = c.from_residual.ensures ∙ no_amount c.args.f c.args.s.now c.behind_sign.ensures c.value_in.ensures c.in_err-d.was
 
-pub returns-then-not-is_decimal : goal.returns-then-not-is_decimal
-unfolding signed_of
-returns-then-not-is_decimal c = cond_no _ (sym (c.is_decimal.ensures ∙ told c.args.f c.args.s.now c.behind_sign.ensures) ∙ c.if-not-is_decimal.true) refl
+pub overflow_sub-result : goal.overflow_sub-result
+overflow_sub-result c = minus_room c.args.f c.args.s.now c.behind_sign.ensures c.value_in.ensures c.in_ok-d.was
 
-pub signed_value_of-requires : goal.signed_value_of-requires
-signed_value_of-requires c = few_signed 18 c.args.f 19 c.args.s.now (sym (c.is_decimal.ensures ∙ told c.args.f c.args.s.now c.behind_sign.ensures) ∙ c.if-not-is_decimal.false) refl (lit≤ tt) (lit≤ tt)
+pub returns-in-45 : goal.returns-in-45
+returns-in-45 c = below_zero c.args.f c.args.s.now c.behind_sign.ensures c.value_in.ensures c.in_ok-d.was (omega arith) (omega arith)
 
-pub returns : goal.returns
-unfolding signed_of
-returns c = cond_yes _ (sym (c.is_decimal.ensures ∙ told c.args.f c.args.s.now c.behind_sign.ensures) ∙ c.if-not-is_decimal.false) (ap Some c.signed_value_of.ensures)
+pub returns-in_default : goal.returns-in_default
+returns-in_default c = not_below c.args.f c.args.s.now c.behind_sign.ensures c.value_in.ensures c.in_ok-d.was (λ h e. omega arith)
+
+pub returns-in_default-2 : goal.returns-in_default-2
+returns-in_default-2 c = not_below c.args.f c.args.s.now c.behind_sign.ensures c.value_in.ensures c.in_ok-d.was (λ h e. omega arith)
