@@ -1,13 +1,13 @@
 -- Decimals: where the point stands, how many digits there can be, and that their number fits.
-use mathlib.Core.Path.{◌≡◌, ◌∙◌, refl, sym, ap}
+use mathlib.Core.Path.{◌≡◌, ◌∙◌, refl, sym}
 use mathlib.Core.Bool.{Bool, true, false, cond, ◌&&◌, ◌||◌}
 use mathlib.Core.List.{List, [], ◌∷◌}
 use mathlib.Core.Logic.{⊎_elim}
 use Prim.Native.Nat.{ℕ, suc, ◌+◌, ◌-◌, ◌^◌, ◌≤◌, ◌<◌}
 use native.Mathlib.Omega.{arith}
-use borrow.Author.Tests.{eq-eqb, ne_eqb, eqb-true, leb-true, ltb-false}
+use borrow.Author.Tests.{eqb-true, leb-true, ltb-false}
 use lib.Dec.{leb, ltb, eqb, lit<}
-use lib.ListN.{length, get_or, take, drop, length-append, length-take, length-drop, drop_of_length-le}
+use lib.ListN.{length, length-append, length-take, length-drop}
 use Rattle.std.specs.Prelude.{◌==◌}
 use Rattle.std.specs.List.{position_or_len}
 use Rattle.std.specs.Option.{unwrap_or}
@@ -16,12 +16,9 @@ use Rattle.std.proofs.lemmas.List.Recursion.{is_position_or_len}
 use Rattle.text.specs.declared.classes.Class.TheVariants.{Digit}
 use Rattle.text.specs.Class.{is, run_of}
 use Rattle.text.specs.Number.{number_of}
-use Rattle.text.specs.Word.{starts_with}
 use Rattle.text.proofs.Bools.{and_left, and_right, or_cases, by_test}
-use Rattle.text.proofs.Lists.{rest_at}
 use Rattle.text.proofs.NumberLaws.{numeral_below, ten_grows}
-use Rattle.amount.specs.Decimal.{point_at, whole, decimals, is_decimal, digits_of, without_last_zeros, fewest_decimals, tagged}
-use Rattle.amount.specs.Signed.{behind_sign, is_signed}
+use Rattle.amount.specs.Decimal.{point_at, whole, decimals, is_decimal, digits_of}
 
 pub point_within : (s : List ℕ) → point_at s ≤ length s
 unfolding point_at
@@ -57,41 +54,6 @@ pub digits_length : (s : List ℕ) → length (digits_of s) ≡ point_at s + (le
 unfolding digits_of decimals
 digits_length s = length-append (whole s) (decimals s) ∙ rw (whole_length s, length-drop)
 
--- what stands before the point and behind it, by the point's place
-module _ (s : List ℕ) {p : ℕ} (here : p ≡ point_at s) where
-  pub point_room : p ≤ length s
-  point_room = rw here (point_within s)
-
-  pub whole_is : {w : List ℕ} → w ≡ take p s → w ≡ whole s
-  unfolding whole
-  whole_is e = e ∙ rw here
-
-  pub decimals_are : {d : List ℕ} → d ≡ drop (p + 1) s → d ≡ decimals s
-  unfolding decimals
-  decimals_are e = e ∙ rw here
-
-  pub fewest_are : {d t : List ℕ} → t ≡ without_last_zeros d → d ≡ drop (p + 1) s → t ≡ fewest_decimals s
-  unfolding fewest_decimals
-  fewest_are f e = f ∙ ap without_last_zeros (decimals_are e)
-
-  module _ (n f m : ℕ) {w : List ℕ} {r : Bool} (front : r ≡ run_of Digit 1 n w) (at : w ≡ take p s) where
-    pub no_whole : r ≡ false → false ≡ is_decimal n f m s
-    unfolding is_decimal
-    no_whole e =
-        let whole-wrong : run_of Digit 1 n (whole s) ≡ false = rw (whole_is at) at (sym front ∙ e) in
-        rw whole-wrong
-
-    whole_right : r ≡ true → run_of Digit 1 n (whole s) ≡ true
-    whole_right e = rw (whole_is at) at (sym front ∙ e)
-
-    pub no_point : r ≡ true → p ≡ length s → true ≡ is_decimal n f m s
-    unfolding is_decimal
-    no_point e all = rw (whole_right e, whole_length s, sym here, eq-eqb p (length s) all)
-
-    pub pointed : r ≡ true → (p ≡ length s → ⊥) → {d : List ℕ} {q : Bool} → q ≡ run_of Digit 0 f d → d ≡ drop (p + 1) s → (leb (length s) m && q) ≡ is_decimal n f m s
-    unfolding is_decimal
-    pointed e not-all g back = rw (whole_right e, whole_length s, sym here, ne_eqb p (length s) not-all, g, decimals_are back)
-
 -- D(n, f, m) has at most n digits without a point, and fewer than m with one
 pub few_digits : (n f m : ℕ) (s : List ℕ) → is_decimal n f m s ≡ true → n ≤ 18 → m ≤ 19 → length (digits_of s) ≤ 18
 unfolding is_decimal
@@ -111,12 +73,3 @@ few_digits n f m s e h k = rw (digits_length s) (⊎_elim plain pointed (or_case
 
     pointed : (leb (length s) m && run_of Digit 0 f (decimals s)) ≡ true → point_at s + (length s - (point_at s + 1)) ≤ 18
     pointed t = omega (arith, at_most, whole_length s, leb-true (length s) m (and_left (leb (length s) m) _ t))
-
--- the same for what stands behind a kind's word, and behind a sign
-pub few_tagged : (n f m : ℕ) (word s : List ℕ) {t : List ℕ} → tagged word n f m s ≡ true → t ≡ drop (length word) s → n ≤ 18 → m ≤ 19 → length (digits_of t) ≤ 18
-unfolding tagged
-few_tagged n f m word s e at h k = rw at (few_digits n f m (drop (length word) s) (and_right (starts_with word s) _ e) h k)
-
-pub few_signed : (n f m : ℕ) (s : List ℕ) {t : List ℕ} → is_signed n f m s ≡ true → t ≡ s → n ≤ 18 → m ≤ 19 → length (digits_of (behind_sign t)) ≤ 18
-unfolding is_signed
-few_signed n f m s e at h k = rw at (few_digits n f m (behind_sign s) e h k)

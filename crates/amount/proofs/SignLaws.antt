@@ -1,13 +1,12 @@
 -- The number of a decimal as a signed one, and its negation: exact, since 10 ^ 18 is below 2 ^ 63.
 use mathlib.Core.Path.{◌≡◌, ◌∙◌, refl, sym, ap}
 use mathlib.Core.Bool.{Bool, true, false, cond}
-use mathlib.Core.List.{List, [], ◌∷◌, ◌++◌}
+use mathlib.Core.List.{List, ◌++◌}
 use Prim.Native.Nat.{ℕ, zero, suc, ◌^◌, ◌≤◌, ◌<◌}
 use native.Mathlib.Omega.{arith}
-use borrow.Author.Tests.{eq-eqb, ne_eqb}
 use lib.Dec.{lit<}
-use lib.IntN.{pos, neg_ℤ, nat_abs, ◌-ℤ◌, +ℤ_idl}
-use lib.ListN.{length, get_or, length-append}
+use lib.IntN.{pos, neg_ℤ, ◌-ℤ◌, +ℤ_idl}
+use lib.ListN.{length, length-append}
 use mir.Syntax.{w8, w64}
 use mir.Val.{Fits, SFits, to_z, of_z}
 use mir.Facts.{to_z-of_z, to_z_pos}
@@ -15,15 +14,11 @@ use Rattle.std.proofs.Common.{Option, Some, None}
 use Rattle.text.specs.Ascii.{ascii}
 use Rattle.text.specs.Word.{starts_with}
 use Rattle.text.specs.Number.{number_of}
-use Rattle.text.proofs.Bools.{cond_yes, cond_no}
 use Rattle.amount.specs.declared.Decimal.{Decimal}
-use Rattle.amount.specs.declared.Quantity.TheVariants.{Units, Malformed}
-use Rattle.amount.specs.Decimal.{whole, decimals, digits_of, fewest_decimals, value_of, value_in, is_decimal, is_zero}
+use Rattle.amount.specs.Decimal.{whole, decimals, digits_of, fewest_decimals, value_of, value_in, is_decimal}
 use Rattle.amount.specs.Signed.{behind_sign, is_signed, negated, signed_value_of, signed_of}
-use Rattle.amount.specs.Quantity.{units_of}
 use Rattle.amount.proofs.DecimalLaws.{number_below}
 use Rattle.amount.proofs.LastZeros.{no_longer}
-use Rattle.amount.proofs.ValueLaws.{no_size}
 
 module _ (s : List ℕ) where
   pub number_fits : {n : ℕ} → n ≡ number_of (whole s ++ fewest_decimals s) → SFits w64 (pos n)
@@ -56,17 +51,6 @@ module _ (s : List ℕ) where
     pub negation_is : to_z w64 (of_z w64 (pos 0 -ℤ to_z w64 (of_z w64 d.mantissa))) ≡ neg_ℤ d.mantissa
     negation_is = rw (to_z-of_z mantissa_fits, +ℤ_idl) (to_z-of_z minus_fits)
 
--- a minus stands in front, or it does not
-minus_first : (s : List ℕ) → 1 ≤ length s → get_or s 0 0 ≡ 45 → starts_with (ascii "-") s ≡ true
-unfolding starts_with
-minus_first [] h e = absurd (omega arith)
-minus_first (b ∷ s) h e = rw e
-
-no_minus_first : (s : List ℕ) → (1 ≤ length s → get_or s 0 0 ≡ 45 → ⊥) → starts_with (ascii "-") s ≡ false
-unfolding starts_with
-no_minus_first [] e = refl
-no_minus_first (b ∷ s) e = rw (ne_eqb b 45 (e (omega arith)))
-
 -- a signed amount, by what is read behind the sign
 module _ (f : ℕ) (s : List ℕ) {t : List ℕ} (behind : t ≡ behind_sign s) {r : Option Decimal} (told : r ≡ value_in 18 f 19 t) where
   read : r ≡ value_in 18 f 19 (behind_sign s)
@@ -91,23 +75,12 @@ module _ (f : ℕ) (s : List ℕ) {t : List ℕ} (behind : t ≡ behind_sign s) 
     pub minus_room : SFits w64 (pos 0 -ℤ to_z w64 (of_z w64 d.mantissa))
     minus_room = negation_fits (behind_sign s) amount_is.1
 
-    pub below_zero : 1 ≤ length s → get_or s 0 0 ≡ 45 → Some (record { mantissa = to_z w64 (of_z w64 (pos 0 -ℤ to_z w64 (of_z w64 d.mantissa))); places = d.places }) ≡ signed_of f s
+    pub below_zero : {b : Bool} → b ≡ starts_with (ascii "-") s → b ≡ true → Some (record { mantissa = to_z w64 (of_z w64 (pos 0 -ℤ to_z w64 (of_z w64 d.mantissa))); places = d.places }) ≡ signed_of f s
     unfolding signed_of is_signed signed_value_of
-    below_zero h e =
-        rw (amount_is.0, minus_first s h e)
+    below_zero minus e =
+        rw (amount_is.0, sym minus, e)
         (ap Some ((λ i. record { mantissa = negation_is (behind_sign s) amount_is.1 i; places = d.places }) ∙ ap negated amount_is.1))
 
-    pub not_below : (1 ≤ length s → get_or s 0 0 ≡ 45 → ⊥) → Some d ≡ signed_of f s
+    pub not_below : {b : Bool} → b ≡ starts_with (ascii "-") s → b ≡ false → Some d ≡ signed_of f s
     unfolding signed_of is_signed signed_value_of
-    not_below e = rw (amount_is.0, no_minus_first s e) (ap Some amount_is.1)
-
--- a signed mantissa is compared with zero by its bits
-module _ (d : Decimal) (fits : SFits w64 d.mantissa) where
-  pub units_zero : of_z w64 d.mantissa ≡ 0 → Malformed ≡ units_of d
-  units_zero e = cond_yes _ zero refl
-    where
-      zero : is_zero d ≡ true
-      zero = eq-eqb (nat_abs d.mantissa) 0 (ap nat_abs (sym (to_z-of_z fits) ∙ ap (to_z w64) e))
-
-  pub units_some : (of_z w64 d.mantissa ≡ 0 → ⊥) → Units d ≡ units_of d
-  units_some e = cond_no _ (ne_eqb (nat_abs d.mantissa) 0 (λ h. e (ap (of_z w64) (no_size d.mantissa h)))) refl
+    not_below minus e = rw (amount_is.0, sym minus, e) (ap Some amount_is.1)

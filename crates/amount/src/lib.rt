@@ -55,17 +55,14 @@ fn point_at(s: &[u8]) -> usize
 }
 
 // D(n, f, m).
+#[tactic(auto, using(crate::proofs::DecimalLaws::point_within, crate::proofs::DecimalLaws::whole_length), unfolding(crate::specs::Decimal::is_decimal, crate::specs::Decimal::whole, crate::specs::Decimal::decimals))]
 pub fn is_decimal(s: &[u8], n: usize, f: usize, m: usize) -> bool
     ensures { result ≡ is_decimal n f m s.now }
 {
     let point = point_at(s);
-    if !text::run_of(text::head(s, point), Class::Digit, 1, n) {
-        return false;
-    }
-    if point == s.len() {
-        return true;
-    }
-    (s.len() <= m) & text::run_of(text::rest(s, point + 1), Class::Digit, 0, f)
+    text::run_of(text::head(s, point), Class::Digit, 1, n)
+        && (point == s.len()
+            || (s.len() <= m && text::run_of(text::rest(s, point + 1), Class::Digit, 0, f)))
 }
 
 // Zeros at the end of decimals say nothing. They are looked for from the end, where most decimals have none.
@@ -82,6 +79,7 @@ fn without_last_zeros(s: &[u8]) -> &[u8]
 
 // At the document's widths there are never more than 18 digits: with a point among them, 19 bytes hold no more.
 // A zero before the point stays: places never fall below none.
+#[tactic(auto, using(crate::proofs::SignLaws::number_fits, crate::proofs::SignLaws::places_fit, crate::proofs::SignLaws::value_is, crate::proofs::DecimalLaws::point_within), unfolding(crate::specs::Decimal::whole, crate::specs::Decimal::decimals, crate::specs::Decimal::fewest_decimals))]
 fn value_of(s: &[u8]) -> Decimal
     requires { length (digits_of s.now) ≤ 18 }
     ensures { result ≡ value_of s.now }
@@ -145,6 +143,7 @@ const PERCENT: Width = Width {
     f: 10,
     m: 19,
 };
+
 const YIELD: Width = Width {
     n: 11,
     f: 10,
@@ -156,6 +155,7 @@ const FRACTION: Width = Width {
     f: 17,
     m: 19,
 };
+
 const MONEY: Width = Width { n: 18, f: 5, m: 19 };
 
 // D(18, f, 19) that may open with one + or -, which is not counted, read to its value: f is 5 for cell 38 and 13 behind MV:.
@@ -165,13 +165,13 @@ pub fn parse_signed(s: &[u8], f: usize) -> Option<Decimal>
 {
     let width = Width { n: 18, f, m: 19 };
     let d = width.value_in(behind_sign(s))?;
-    match s {
-        [b'-', ..] => Some(Decimal {
+    if text::starts_with(s, b"-") {
+        return Some(Decimal {
             mantissa: -d.mantissa,
             ..d
-        }),
-        _ => Some(d),
+        });
     }
+    Some(d)
 }
 
 // Cells 33 and 51.
@@ -205,9 +205,10 @@ fn units_of(d: Decimal) -> Quantity
     ensures { result ≡ units_of d }
 {
     if d.mantissa == 0 {
-        return Quantity::Malformed;
+        Quantity::Malformed
+    } else {
+        Quantity::Units(d)
     }
-    Quantity::Units(d)
 }
 
 // Cell 30.

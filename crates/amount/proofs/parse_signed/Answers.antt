@@ -1,4 +1,4 @@
-use Rattle.std.proofs.Common.{arith, ◌∙◌}
+use Rattle.std.proofs.Common.{◌∙◌}
 use Rattle.amount.proofs.SignLaws.{no_amount, minus_room, below_zero, not_below}
 use Rattle.amount.proofs.parse_signed.Goals as goal
 
@@ -8,11 +8,8 @@ returns-in_err-d c = c.from_residual.ensures ∙ no_amount c.args.f c.args.s.now
 pub overflow_sub-result : goal.overflow_sub-result
 overflow_sub-result c = minus_room c.args.f c.args.s.now c.behind_sign.ensures c.value_in.ensures c.in_ok-d.was
 
-pub returns-in-45 : goal.returns-in-45
-returns-in-45 c = below_zero c.args.f c.args.s.now c.behind_sign.ensures c.value_in.ensures c.in_ok-d.was (omega arith) (omega arith)
+pub returns-then-starts_with : goal.returns-then-starts_with
+returns-then-starts_with c = below_zero c.args.f c.args.s.now c.behind_sign.ensures c.value_in.ensures c.in_ok-d.was c.starts_with.ensures c.if-starts_with.true
 
-pub returns-in_default : goal.returns-in_default
-returns-in_default c = not_below c.args.f c.args.s.now c.behind_sign.ensures c.value_in.ensures c.in_ok-d.was (λ h e. omega arith)
-
-pub returns-in_default-2 : goal.returns-in_default-2
-returns-in_default-2 c = not_below c.args.f c.args.s.now c.behind_sign.ensures c.value_in.ensures c.in_ok-d.was (λ h e. omega arith)
+pub returns : goal.returns
+returns c = not_below c.args.f c.args.s.now c.behind_sign.ensures c.value_in.ensures c.in_ok-d.was c.starts_with.ensures c.if-starts_with.false
