@@ -4,47 +4,45 @@ use mathlib.Core.Bool.{Bool, true, false, cond, not, ◌&&◌, true≢false}
 use mathlib.Core.List.{List, [], ◌∷◌}
 use Prim.Native.Nat.{ℕ, zero, suc, ◌+◌, ◌-◌, ◌%◌, ◌≤◌, ◌<◌}
 use native.Mathlib.Omega.{arith}
-use borrow.Author.Tests.{eqb-true, eqb-false, leb-true, not-true}
+use borrow.Author.Tests.{eqb-true, eqb-false, ne_eqb, leb-true, not-true}
 use lib.Dec.{eqb, leb, lit<}
-use lib.ListN.{length, get_or, take, drop, length-drop, length-take, drop_of_length-le}
+use lib.ListN.{length, get_or, take, drop, length-drop, length-take}
+use Rattle.std.proofs.Common.{Option, Some, None}
+use Rattle.std.specs.List.{take_while, prefix_len}
 use Rattle.text.specs.Ascii.{ascii}
 use Rattle.text.specs.Class.{range}
 use Rattle.text.specs.Shape.{suits, shape}
 use Rattle.text.specs.Word.{one_of}
 use Rattle.text.specs.Number.{number_of}
 use Rattle.text.proofs.Bools.{and_left, and_right, by_test}
-use Rattle.text.proofs.Lists.{rest_at}
 use Rattle.text.proofs.NumberLaws.{numeral_below, ten_grows, number_short}
 use Rattle.ident.specs.Codes.{isin_shaped, double_add_double}
 use Rattle.ident.specs.Written.{written_digits}
 use Rattle.baskets.specs.declared.items.Holds.{Holds}
 use Rattle.baskets.specs.declared.items.Holds.TheVariants.{Isin, Term}
 use Rattle.baskets.specs.declared.items.Value.{Value}
-use Rattle.baskets.specs.Items.{Part, in_front, digits_in, one_to_three, spaces_in, stands, units, value_size, value_right, item_with, item_in, none, behind, joined, after_comma, fitting, items_in}
+use Rattle.baskets.specs.Items.{Part, in_front, digits_in, one_to_three, spaces_in, stands, units, value_size, value_right, item_in, none, behind, joined, after_comma, fitting, items_in}
 use Rattle.baskets.specs.Told.{value_told, item_told}
 
--- the bytes before place i pass the test
-pub record PassedSoFar (test : ℕ → Bool) (s : List ℕ) (i : ℕ) : Type 0 where
-  pub within : i ≤ length s
-  pub left : in_front test s ≡ i + in_front test (drop i s)
+-- what a choice between a value and none came to
+module _ {A : Type 0} where
+  pub some_only : (b : Bool) {x y : A} → cond b (Some x) None ≡ Some y → (b ≡ true) × (y ≡ x)
+  some_only true e = (refl, cc)
+  some_only false e = cc
 
-pub passed_start : {test : ℕ → Bool} {s : List ℕ} → PassedSoFar test s 0
-passed_start = record { within = omega arith; left = omega arith }
+  pub none_only : (b : Bool) (x : A) → cond b (Some x) None ≡ None → b ≡ false
+  none_only true x e = cc
+  none_only false x e = refl
 
-module _ {test : ℕ → Bool} {s : List ℕ} {i : ℕ} (so_far : PassedSoFar test s i) where
-  pub passed_on : i < length s → test (get_or s i 0) ≡ true → PassedSoFar test s (i + 1)
-  unfolding in_front
-  passed_on h e =
-      let z : in_front test (drop i s) ≡ suc (in_front test (drop (i + 1) s)) = rw (rest_at 0 s i h, e) in
-      record { within = omega arith; left = omega (arith, so_far.left) }
-
-  pub passed_off : i < length s → test (get_or s i 0) ≡ false → i ≡ in_front test s
-  unfolding in_front
-  passed_off h e = let z : in_front test (drop i s) ≡ 0 = rw (rest_at 0 s i h, e) in omega (arith, so_far.left)
-
-  pub passed_all : length s ≤ i → i ≡ in_front test s
-  unfolding in_front
-  passed_all h = let z : in_front test (drop i s) ≡ 0 = rw (drop_of_length-le s h) in omega (arith, so_far.left)
+-- the bytes in front are counted
+pub front_counted : (test : ℕ → Bool) (s : List ℕ) → in_front test s ≡ length (take_while test s)
+unfolding in_front
+front_counted test [] = refl
+front_counted test (b ∷ s) = go (test b) (front_counted test s)
+  where
+    go : (t : Bool) → in_front test s ≡ length (take_while test s) → cond t (suc (in_front test s)) 0 ≡ length (take (cond t (1 + prefix_len test s) 0) (b ∷ s))
+    go true h = let e : 1 + prefix_len test s ≡ suc (prefix_len test s) = omega arith in rw e (ap suc h)
+    go false h = refl
 
 pub front_within : (test : ℕ → Bool) (s : List ℕ) → in_front test s ≤ length s
 unfolding in_front
@@ -55,15 +53,17 @@ front_within test (b ∷ s) = go (test b) (front_within test s)
     go true h = omega arith
     go false h = omega arith
 
+told_some : (holds : Holds) (s : List ℕ) {size : ℕ} {right : Bool} → value_size holds s ≡ size → 0 < size → right ≡ value_right holds (take (value_size holds s) s) → Some (record { size = size; right = right }) ≡ value_told holds s
+told_some holds s e some r = rw (ne_eqb (value_size holds s) 0 (λ z. omega (arith, e, z, some))) (λ i. Some (record { size = sym e i; right = r i }))
+
 -- the value that the function told of an ISIN and of a term
 module _ (s : List ℕ) {v : List ℕ} (here : v ≡ take 12 s) where
-  pub isin_none : isin_shaped v ≡ false → record { size = 0; right = false } ≡ value_told Isin s
-  unfolding shape
+  pub isin_none : isin_shaped v ≡ false → None ≡ value_told Isin s
   isin_none e =
       let none_here : isin_shaped (take 12 s) ≡ false = ap isin_shaped (sym here) ∙ e in
       rw none_here
 
-  pub isin_some : isin_shaped v ≡ true → {k : ℕ} → k ≡ double_add_double (written_digits v) % 10 → record { size = 12; right = eqb k 0 } ≡ value_told Isin s
+  pub isin_some : isin_shaped v ≡ true → {k : ℕ} → k ≡ double_add_double (written_digits v) % 10 → Some (record { size = 12; right = eqb k 0 }) ≡ value_told Isin s
   isin_some e {k} left =
       let shaped : isin_shaped (take 12 s) ≡ true = ap isin_shaped (sym here) ∙ e in
       let sum : k ≡ double_add_double (written_digits (take 12 s)) % 10 = left ∙ ap (λ w. double_add_double (written_digits w) % 10) here in
@@ -76,11 +76,11 @@ module _ (s : List ℕ) {u word : List ℕ} {n : ℕ} {one : Bool} (past : u ≡
   term_tested : (one && one_to_three n) ≡ (one_of 5 units (take 5 s) && one_to_three (digits_in (drop 5 s)))
   term_tested = λ i. (says ∙ ap (one_of 5 units) front) i && one_to_three (digits_there i)
 
-  pub term_none : (one && one_to_three n) ≡ false → record { size = 0; right = true } ≡ value_told Term s
+  pub term_none : (one && one_to_three n) ≡ false → None ≡ value_told Term s
   term_none e = rw (sym term_tested ∙ e)
 
-  pub term_some : (one && one_to_three n) ≡ true → record { size = 5 + n; right = true } ≡ value_told Term s
-  term_some e = rw (sym term_tested ∙ e, digits_there)
+  pub term_some : (one && one_to_three n) ≡ true → Some (record { size = 5 + n; right = true }) ≡ value_told Term s
+  term_some e = told_some Term s (rw (sym term_tested ∙ e, digits_there)) (omega arith) refl
 
 pub term_short : (one : Bool) (n : ℕ) → (one && one_to_three n) ≡ true → n ≤ 3
 term_short one n e = leb-true n 3 (and_right (leb 1 n) (leb n 3) (and_right one (one_to_three n) e))
@@ -108,36 +108,55 @@ value_within Term s =
     (λ e. rw e (omega arith))
 
 -- the item in front, by what the calls tell: n digits, and behind the colon and the spaces the value
-module _ (s : List ℕ) {n : ℕ} (digits : n ≡ digits_in s) where
+module _ (holds : Holds) (s : List ℕ) {n : ℕ} (digits : n ≡ digits_in s) where
   pub colon_room : n ≤ length s
   colon_room = rw digits (front_within (range "09") s)
 
-  module _ {u : List ℕ} {gap : ℕ} (past : u ≡ drop (n + 1) s) (spaces : gap ≡ spaces_in u) where
-    pub value_room : n + 1 + gap ≤ length s + 1
-    value_room = omega (arith, colon_room, spaces, front_within (range "  ") u, ap length past, length-drop (n + 1) s)
+  module _ {colon : ℕ} (colon-there : colon ≡ get_or s n 0) where
+    index_tested : (one_to_three n && eqb colon 58) ≡ (one_to_three (digits_in s) && stands ":" (digits_in s) s)
+    index_tested = λ i. one_to_three (digits i) && eqb ((colon-there ∙ (λ j. get_or s (digits j) 0)) i) 58
 
-    place : n + 1 + gap ≡ digits_in s + 1 + spaces_in (drop (digits_in s + 1) s)
-    place = λ i. digits i + 1 + (spaces ∙ ap spaces_in (past ∙ (λ j. drop (digits j + 1) s))) i
+    pub no_index : (one_to_three n && eqb colon 58) ≡ false → None ≡ item_told holds (item_in holds s)
+    unfolding item_in
+    no_index e = rw (sym index_tested ∙ e)
 
-    module _ (holds : Holds) {t : List ℕ} {value : Value} (there : t ≡ drop (n + 1 + gap) s) (value_is : value ≡ value_told holds t) where
-      sized : value.size ≡ value_size holds (drop (n + 1 + gap) s)
-      sized = ap (λ v. v.size) value_is ∙ ap (value_size holds) there
+    module _ (indexed : (one_to_three n && eqb colon 58) ≡ true) {u : List ℕ} {gap : ℕ} (past : u ≡ drop (n + 1) s) (spaces : gap ≡ spaces_in u) where
+      pub value_room : n + 1 + gap ≤ length s + 1
+      value_room = omega (arith, colon_room, spaces, front_within (range "  ") u, ap length past, length-drop (n + 1) s)
 
-      pub item_room : n + 1 + gap + value.size ≤ length s + 1
-      item_room = omega (arith, value_room, sized, value_within holds (drop (n + 1 + gap) s), length-drop (n + 1 + gap) s)
+      place : n + 1 + gap ≡ digits_in s + 1 + spaces_in (drop (digits_in s + 1) s)
+      place = λ i. digits i + 1 + (spaces ∙ ap spaces_in (past ∙ (λ j. drop (digits j + 1) s))) i
 
-      pub item_is : {colon index : ℕ} {front : List ℕ} → colon ≡ get_or s n 0 → front ≡ take n s → index ≡ number_of front
-          → record { good = one_to_three n && eqb colon 58 && not (eqb value.size 0); index = index; right = value.right; size = n + 1 + gap + value.size }
-          ≡ item_told holds (item_in holds s)
-      unfolding item_in
-      item_is colon-there front-is number =
-          (λ i. record {
-            good = one_to_three n && eqb (colon-there i) 58 && not (eqb (sized i) 0);
-            index = (number ∙ ap number_of front-is) i;
-            right = (ap (λ v. v.right) value_is ∙ (λ j. value_right holds (take (value_size holds (there j)) (there j)))) i;
-            size = n + 1 + gap + sized i;
-          })
-          ∙ (λ i. item_told holds (item_with holds s (digits i) (place i)))
+      module _ {t : List ℕ} {r : Option Value} (there : t ≡ drop (n + 1 + gap) s) (told : r ≡ value_told holds t) where
+        told_there : r ≡ value_told holds (drop (digits_in s + 1 + spaces_in (drop (digits_in s + 1) s)) s)
+        told_there = told ∙ (λ i. value_told holds ((there ∙ (λ j. drop (place j) s)) i))
+
+        pub no_value : r ≡ None → None ≡ item_told holds (item_in holds s)
+        unfolding item_in
+        no_value e = rw (none_only (not (eqb (value_size holds (drop (digits_in s + 1 + spaces_in (drop (digits_in s + 1) s)) s)) 0)) _ (sym told_there ∙ e), sym index_tested ∙ indexed)
+
+        module _ {value : Value} (some : r ≡ Some value) where
+          at : ℕ
+          at = digits_in s + 1 + spaces_in (drop (digits_in s + 1) s)
+
+          kept : (not (eqb (value_size holds (drop at s)) 0) ≡ true) × (value ≡ record { size = value_size holds (drop at s); right = value_right holds (take (value_size holds (drop at s)) (drop at s)) })
+          unfolding at
+          kept = some_only (not (eqb (value_size holds (drop at s)) 0)) (sym told_there ∙ some)
+
+          pub item_room : n + 1 + gap + value.size ≤ length s + 1
+          unfolding at
+          item_room = omega (arith, value_room, place, ap (λ v. v.size) kept.1, value_within holds (drop at s), length-drop at s)
+
+          pub item_is : {index : ℕ} {front : List ℕ} → front ≡ take n s → index ≡ number_of front
+              → Some (record { index = index; right = value.right; size = n + 1 + gap + value.size }) ≡ item_told holds (item_in holds s)
+          unfolding item_in at
+          item_is front-is number =
+              rw (sym index_tested ∙ indexed, kept.0)
+              (λ i. Some (record {
+                index = (number ∙ ap number_of (front-is ∙ (λ j. take (digits j) s))) i;
+                right = (kept.1 i).right;
+                size = place i + (kept.1 i).size;
+              }))
 
 -- what is a good item ends within the text
 pub item_within : (holds : Holds) (s : List ℕ) → (item_in holds s).good ≡ true → (item_in holds s).size ≤ length s

@@ -3,11 +3,12 @@ use mathlib.Core.Path.{◌≡◌, ◌∙◌, refl, sym, ap}
 use mathlib.Core.Bool.{Bool, true, false, cond, not, ◌&&◌, ◌||◌, and_assoc}
 use mathlib.Core.List.{List, [], ◌∷◌, ◌++◌}
 use mathlib.Core.Logic.{⊎_elim}
-use Prim.Native.Nat.{ℕ, ◌+◌, ◌≤◌, ◌<◌}
+use Prim.Native.Nat.{ℕ, ◌+◌, ◌-◌, ◌≤◌, ◌<◌}
 use native.Mathlib.Omega.{arith}
-use borrow.Author.Tests.{eq-eqb, ne_eqb, eqb-true}
+use borrow.Author.Tests.{eq-eqb, ne_eqb, eqb-true, eqb-false}
 use lib.Dec.{eqb}
-use lib.ListN.{length, get_or, drop, length-drop}
+use lib.ListN.{length, get_or, take, drop, length-drop}
+use lib.Seq.{take_all}
 use Rattle.text.specs.Class.{range}
 use Rattle.text.proofs.Bools.{or_cases}
 use Rattle.baskets.specs.declared.items.Holds.{Holds}
@@ -46,24 +47,49 @@ pub leg_within : (holds : Holds) (s : List ℕ) → (leg_in holds s).size ≤ le
 unfolding leg_in
 leg_within holds s = opened_within s (stands "+" 0 s || stands "-" 0 s) (basket_in holds (drop 1 s)) (sign_there s) (basket_within holds (drop 1 s))
 
--- the room for the byte of its own
-module _ (holds : Holds) (s : List ℕ) {t : List ℕ} {r : PartRead} (past : t ≡ drop 1 s) where
-  pub items_room : r ≡ part_told holds (items_in holds 16 0 t) → 1 + r.size ≤ length s + 1
-  items_room e = omega (arith, ap (λ x. x.size) e, items_within holds 16 0 t, ap length past, length-drop 1 s)
+-- a basket and a leg by their first byte, with what stands behind it
+module _ (s : List ℕ) where
+  abbrev behind_first : List ℕ
+  behind_first = take (length s - 1) (drop 1 s)
 
-  pub basket_room : r ≡ part_told holds (basket_in holds t) → 1 + r.size ≤ length s + 1
-  basket_room e = omega (arith, ap (λ x. x.size) e, basket_within holds t, ap length past, length-drop 1 s)
+  behind_is : behind_first ≡ drop 1 s
+  behind_is = let h : length (drop 1 s) ≤ length s - 1 = omega (arith, length-drop 1 s) in take_all (length s - 1) (drop 1 s) h
 
--- the first byte, by what the call tells
-module _ (s : List ℕ) {b : ℕ} (first : b ≡ get_or s 0 0) where
-  pub stands_not : (a : ℕ) → (b ≡ a → ⊥) → eqb (get_or s 0 0) a ≡ false
-  stands_not a e = ne_eqb _ _ (λ f. e (first ∙ f))
+  first_else : (b : ℕ) → 0 < b → (1 ≤ length s → get_or s 0 0 ≡ b → ⊥) → eqb (get_or s 0 0) b ≡ false
+  first_else b some e = ne_eqb _ _ (λ f. e (there_is s f some) f)
 
-  pub stands_there : (a : ℕ) → b ≡ a → eqb (get_or s 0 0) a ≡ true
-  stands_there a e = eq-eqb _ _ (sym first ∙ e)
+  module _ (holds : Holds) where
+    pub no_basket : (1 ≤ length s → get_or s 0 0 ≡ 123 → ⊥) → record { good = false; right = true; size = 0 } ≡ part_told holds (basket_in holds s)
+    unfolding basket_in
+    no_basket e = not_opened holds (items_in holds 16 0 (drop 1 s)) (first_else 123 (omega arith) e)
 
-  pub signs : (stands "+" 0 s || stands "-" 0 s) ≡ (eqb b 43 || eqb b 45)
-  signs = λ j. eqb (sym first j) 43 || eqb (sym first j) 45
+    pub no_leg : (1 ≤ length s → get_or s 0 0 ≡ 43 → ⊥) → (1 ≤ length s → get_or s 0 0 ≡ 45 → ⊥) → record { good = false; right = true; size = 0 } ≡ part_told holds (leg_in holds s)
+    unfolding leg_in
+    no_leg plus minus = not_opened holds (basket_in holds (drop 1 s)) (λ j. first_else 43 (omega arith) plus j || first_else 45 (omega arith) minus j)
+
+    module _ {r : PartRead} (told : r ≡ part_told holds (items_in holds 16 0 behind_first)) where
+      pub items_room : 1 + r.size ≤ length s + 1
+      items_room = omega (arith, ap (λ x. x.size) told, items_within holds 16 0 behind_first, ap length behind_is, length-drop 1 s)
+
+      pub a_basket : get_or s 0 0 ≡ 123 → record { good = r.good; right = r.right; size = 1 + r.size } ≡ part_told holds (basket_in holds s)
+      unfolding basket_in
+      a_basket e = opened holds (items_in holds 16 0 (drop 1 s)) (eq-eqb _ _ e) (told ∙ (λ j. part_told holds (items_in holds 16 0 (behind_is j))))
+
+    module _ {r : PartRead} (told : r ≡ part_told holds (basket_in holds behind_first)) where
+      pub basket_room : 1 + r.size ≤ length s + 1
+      basket_room = omega (arith, ap (λ x. x.size) told, basket_within holds behind_first, ap length behind_is, length-drop 1 s)
+
+      pub a_leg : ((get_or s 0 0 ≡ 43 → ⊥) → (get_or s 0 0 ≡ 45 → ⊥) → ⊥) → record { good = r.good; right = r.right; size = 1 + r.size } ≡ part_told holds (leg_in holds s)
+      unfolding leg_in
+      a_leg e = opened holds (basket_in holds (drop 1 s)) sign (told ∙ (λ j. part_told holds (basket_in holds (behind_is j))))
+        where
+          sign : (stands "+" 0 s || stands "-" 0 s) ≡ true
+          sign = go (stands "+" 0 s) (stands "-" 0 s) refl refl
+            where
+              go : (p m : Bool) → stands "+" 0 s ≡ p → stands "-" 0 s ≡ m → (p || m) ≡ true
+              go true m f g = refl
+              go false true f g = refl
+              go false false f g = absurd (e (eqb-false _ _ f) (eqb-false _ _ g))
 
 all_right_append : (holds : Holds) (us vs : List (List ℕ)) → (all_right holds us && all_right holds vs) ≡ all_right holds (us ++ vs)
 unfolding all_right

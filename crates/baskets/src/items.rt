@@ -10,7 +10,7 @@ pub enum Holds {
     Term,
 }
 
-// The value in front of a text: how long it is, 0 where there is none, and whether its check digit is right.
+// The value in front of a text: how long it is, and whether its check digit is right.
 #[derive(Clone, Copy)]
 struct Value {
     size: usize,
@@ -19,13 +19,15 @@ struct Value {
 
 #[derive(Clone, Copy)]
 struct Item {
-    good: bool,
     index: u64,
     right: bool,
     size: usize,
 }
 
 // What stands in front of a text: whether it is well formed, whether all its check digits are right, and how many bytes it takes.
+//
+// `good` stays a flag and no Result: `underlying_of` tells of the check digits in what is not well formed too, and reads a second leg
+// behind a first that broke off, so both cases would hold the same two fields and be handed on alike.
 #[derive(Clone, Copy)]
 pub struct Part {
     pub good: bool,
@@ -45,52 +47,44 @@ pub fn broken_off(right: bool, size: usize) -> Part
 }
 
 // How many bytes in front lie from `least` to `most`.
+#[tactic(auto, using(crate::proofs::ItemLaws::front_counted))]
 pub fn in_front(s: &[u8], least: u8, most: u8) -> usize
     ensures { result ≡ in_front (between least most) s.now }
 {
-    let mut i = 0;
-    while i < s.len() {
-        if !((least <= s[i]) & (s[i] <= most)) {
-            return i;
-        }
-        i += 1;
-    }
-    i
+    s.iter()
+        .take_while(|&&b| least <= b && b <= most)
+        .count()
 }
 
-fn isin_in(s: &[u8]) -> Value
+fn isin_in(s: &[u8]) -> Option<Value>
     ensures { result ≡ value_told Holds.Isin s.now }
 {
     let isin = text::head(s, 12);
     if !ident::isin_shaped(isin) {
-        return Value {
-            size: 0,
-            right: false,
-        };
+        return None;
     }
-    Value {
+    Some(Value {
         size: 12,
         right: ident::isin_remainder(isin) == 0,
-    }
+    })
 }
 
-fn term_in(s: &[u8]) -> Value
+fn term_in(s: &[u8]) -> Option<Value>
     ensures { result ≡ value_told Holds.Term s.now }
 {
     let n = in_front(text::rest(s, 5), b'0', b'9');
     if !(text::one_of(text::head(s, 5), b"DAYS#WEEK#MNTH#YEAR#", 5) & ((1 <= n) & (n <= 3))) {
-        return Value {
-            size: 0,
-            right: true,
-        };
+        return None;
     }
-    Value {
+    Some(Value {
         size: 5 + n,
         right: true,
-    }
+    })
 }
 
-fn value_in(s: &[u8], holds: Holds) -> Value
+// One match here, and no type parameter or closure for the value that is read: it would stand on each of the six functions up to
+// `legs_in`, and the definitions speak of `Holds` as well.
+fn value_in(s: &[u8], holds: Holds) -> Option<Value>
     ensures { result ≡ value_told holds s.now }
 {
     match holds {
@@ -100,18 +94,20 @@ fn value_in(s: &[u8], holds: Holds) -> Value
 }
 
 // An index of 1 to 3 digits, a colon, spaces, a value.
-fn item_in(s: &[u8], holds: Holds) -> Item
+fn item_in(s: &[u8], holds: Holds) -> Option<Item>
     ensures { result ≡ item_told holds (item_in holds s.now) }
 {
     let n = in_front(s, b'0', b'9');
+    if !((1 <= n) & (n <= 3) & (text::byte_at(s, n) == b':')) {
+        return None;
+    }
     let at = n + 1 + in_front(text::rest(s, n + 1), b' ', b' ');
-    let value = value_in(text::rest(s, at), holds);
-    Item {
-        good: ((1 <= n) & (n <= 3)) & (text::byte_at(s, n) == b':') & (value.size != 0),
+    let value = value_in(text::rest(s, at), holds)?;
+    Some(Item {
         index: text::number_in(text::head(s, n)),
         right: value.right,
         size: at + value.size,
-    }
+    })
 }
 
 // Up to 16 items whose indexes rise, and the closing brace. Each must have an index of at least `least`.
@@ -121,30 +117,28 @@ fn items_in(s: &[u8], holds: Holds) -> Part
     let mut at = 0;
     let mut least = 0;
     let mut right = true;
-    let mut more = 16usize;
-    while 0 < more {
+    for _ in 0..16usize {
         let text = text::rest(s, at);
-        let item = item_in(text, holds);
-        if !(item.good & (least <= item.index)) {
+        let Some(item) = item_in(text, holds) else {
+            return broken_off(right, at);
+        };
+        if item.index < least {
             return broken_off(right, at);
         }
-        right = right & item.right;
+        right &= item.right;
         at += item.size;
-        let behind = text::rest(text, item.size);
-        let end = text::byte_at(behind, 0);
-        if end == b'}' {
-            return Part {
-                good: true,
-                right,
-                size: at + 1,
-            };
+        match text::rest(text, item.size) {
+            [b'}', ..] => {
+                return Part {
+                    good: true,
+                    right,
+                    size: at + 1,
+                };
+            }
+            [b',', behind @ ..] => at += 1 + in_front(behind, b' ', b' '),
+            _ => return broken_off(right, at),
         }
-        if end != b',' {
-            return broken_off(right, at);
-        }
-        at += 1 + in_front(text::rest(behind, 1), b' ', b' ');
         least = item.index + 1;
-        more -= 1;
     }
     broken_off(right, at)
 }
@@ -153,13 +147,12 @@ fn items_in(s: &[u8], holds: Holds) -> Part
 pub fn basket_in(s: &[u8], holds: Holds) -> Part
     ensures { result ≡ part_told holds (basket_in holds s.now) }
 {
-    if text::byte_at(s, 0) != b'{' {
+    let [b'{', items @ ..] = s else {
         return broken_off(true, 0);
-    }
-    let items = items_in(text::rest(s, 1), holds);
+    };
+    let items = items_in(items, holds);
     Part {
-        good: items.good,
-        right: items.right,
         size: 1 + items.size,
+        ..items
     }
 }

@@ -18,15 +18,13 @@ pub enum Kind {
 fn leg_in(s: &[u8], holds: Holds) -> Part
     ensures { result ≡ part_told holds (leg_in holds s.now) }
 {
-    let sign = text::byte_at(s, 0);
-    if !((sign == b'+') | (sign == b'-')) {
+    let [b'+' | b'-', basket @ ..] = s else {
         return broken_off(true, 0);
-    }
-    let basket = basket_in(text::rest(s, 1), holds);
+    };
+    let basket = basket_in(basket, holds);
     Part {
-        good: basket.good,
-        right: basket.right,
         size: 1 + basket.size,
+        ..basket
     }
 }
 
@@ -57,8 +55,7 @@ fn other_in(s: &[u8], holds: Holds) -> Part
     let basket = basket_in(s, holds);
     Part {
         good: basket.good & (basket.size == s.len()),
-        right: basket.right,
-        size: basket.size,
+        ..basket
     }
 }
 

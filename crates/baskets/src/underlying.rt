@@ -15,19 +15,21 @@ pub struct Underlying {
     pub right: bool,
 }
 
+#[tactic(auto, unfolding(crate::specs::Underlying::kind_named))]
 fn kind_named(s: &[u8]) -> Kind
     ensures { result ≡ kind_named s.now }
 {
     if text::starts_with(s, b"SWAP:") {
-        return Kind::Swap;
+        Kind::Swap
+    } else if text::starts_with(s, b"OTHR:") {
+        Kind::Other
+    } else {
+        Kind::Malformed
     }
-    if text::starts_with(s, b"OTHR:") {
-        return Kind::Other;
-    }
-    Kind::Malformed
 }
 
 // Nothing, or legs of ISINs.
+#[tactic(auto, unfolding(crate::specs::Items::all_right))]
 fn legs_from(s: &[u8], kind: Kind) -> Part
     ensures { result ≡ part_told Holds.Isin (legs_from kind s.now) }
 {
@@ -42,6 +44,7 @@ fn legs_from(s: &[u8], kind: Kind) -> Part
 }
 
 // Cell 47: SWAP: or OTHR:, spaces, and nothing or legs.
+#[tactic(auto, unfolding(crate::specs::Underlying::underlying_of))]
 pub fn parse_underlying(s: &[u8]) -> Underlying
     ensures { result ≡ underlying_of s.now }
 {
@@ -50,15 +53,12 @@ pub fn parse_underlying(s: &[u8]) -> Underlying
     let text = text::rest(s, 5 + in_front(tail, b' ', b' '));
     let part = legs_from(text, kind);
     let legs = text.len() != 0;
-    if !(part.good & (tail.len() <= 400)) {
-        return Underlying {
-            kind: Kind::Malformed,
-            legs,
-            right: part.right,
-        };
-    }
     Underlying {
-        kind,
+        kind: if part.good && tail.len() <= 400 {
+            kind
+        } else {
+            Kind::Malformed
+        },
         legs,
         right: part.right,
     }
@@ -67,14 +67,11 @@ pub fn parse_underlying(s: &[u8]) -> Underlying
 pub fn is_underlying(kind: Kind) -> bool
     ensures { result ≡ is_underlying kind }
 {
-    match kind {
-        Kind::Swap => true,
-        Kind::Other => true,
-        Kind::Malformed => false,
-    }
+    matches!(kind, Kind::Swap | Kind::Other)
 }
 
 // Cell 49: legs of terms, of the kind that 47 is.
+#[tactic(auto, unfolding(crate::specs::Underlying::terms_fit))]
 pub fn terms_fit(s: &[u8], kind: Kind) -> bool
     ensures { result ≡ terms_fit kind s.now }
 {

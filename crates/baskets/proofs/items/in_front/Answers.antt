@@ -1,15 +1,13 @@
-use Rattle.baskets.proofs.ItemLaws.{passed_start, passed_on, passed_off, passed_all}
-use native.Mathlib.Omega.{arith}
+use Rattle.std.proofs.Common.{rules, tests, ◌∙◌, sym}
+use Rattle.std.proofs.lemmas.Iterator.{YieldsList-from_slice}
+use Rattle.std.proofs.lemmas.Iterator.Consumers.{count_from_yields_List}
+use Rattle.std.proofs.lemmas.Iterator.Search.{YieldsList-from_take_while}
+use Rattle.baskets.specs.Told.{between}
+use Rattle.baskets.proofs.ItemLaws.{front_counted}
 use Rattle.baskets.proofs.items.in_front.Goals as goal
 
-pub loop-i-init : goal.loop-i-init
-loop-i-init c = passed_start
-
-pub returns-then-not-least-s : goal.returns-then-not-least-s
-returns-then-not-least-s c = passed_off c.loop-i.invariant (omega arith) c.if-not-least-s.true
-
-pub loop-i-preserved : goal.loop-i-preserved
-loop-i-preserved c = passed_on c.loop-i.invariant (omega arith) c.if-not-least-s.false
-
 pub returns : goal.returns
-returns c = passed_all c.loop-i.invariant (omega arith)
+returns c =
+    count_from_yields_List c.take_while.result c.count.result c.count.ensures.ran
+    (YieldsList-from_take_while _ (between c.args.least c.args.most) (YieldsList-from_slice c.args.s.now cc) c.take_while.ensures.closure c.take_while.ensures.done (λ x b q k. search (rules, tests)))
+    ∙ sym (front_counted (between c.args.least c.args.most) c.args.s.now)

@@ -3,12 +3,6 @@ use Rattle.baskets.specs.Items.{all_right}
 use Rattle.baskets.specs.Legs.{legs_in}
 use Rattle.baskets.proofs.legs.legs_in.Goals as goal
 
-pub returns-in-Swap : goal.returns-in-Swap
-returns-in-Swap c = rw c.in-Swap.is c.swap_in.ensures
-
-pub returns-in-Other : goal.returns-in-Other
-returns-in-Other c = rw c.in-Other.is c.other_in.ensures
-
 pub returns-in-Malformed : goal.returns-in-Malformed
 unfolding legs_in all_right
 returns-in-Malformed c = c.broken_off.ensures ∙ rw c.in-Malformed.is
