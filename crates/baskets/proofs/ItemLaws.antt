@@ -2,9 +2,9 @@
 use mathlib.Core.Path.{◌≡◌, ◌∙◌, refl, sym, ap}
 use mathlib.Core.Bool.{Bool, true, false, cond, not, ◌&&◌, true≢false}
 use mathlib.Core.List.{List, [], ◌∷◌}
-use Prim.Native.Nat.{ℕ, zero, suc, ◌+◌, ◌-◌, ◌%◌, ◌≤◌, ◌<◌}
+use Prim.Native.Nat.{ℕ, zero, suc, ◌+◌, ◌-◌, ◌≤◌, ◌<◌}
 use native.Mathlib.Omega.{arith}
-use borrow.Author.Tests.{eqb-true, eqb-false, ne_eqb, leb-true, not-true}
+use borrow.Author.Tests.{eqb-true, eqb-false, leb-true, not-true}
 use lib.Dec.{eqb, leb, lit<}
 use lib.ListN.{length, get_or, take, drop, length-drop, length-take}
 use Rattle.std.proofs.Common.{Option, Some, None}
@@ -16,8 +16,7 @@ use Rattle.text.specs.Word.{one_of}
 use Rattle.text.specs.Number.{number_of}
 use Rattle.text.proofs.Bools.{and_left, and_right, by_test}
 use Rattle.text.proofs.NumberLaws.{numeral_below, ten_grows, number_short}
-use Rattle.ident.specs.Codes.{isin_shaped, double_add_double}
-use Rattle.ident.specs.Written.{written_digits}
+use Rattle.ident.specs.Codes.{isin_shaped}
 use Rattle.baskets.specs.declared.items.Holds.{Holds}
 use Rattle.baskets.specs.declared.items.Holds.TheVariants.{Isin, Term}
 use Rattle.baskets.specs.declared.items.Value.{Value}
@@ -52,38 +51,6 @@ front_within test (b ∷ s) = go (test b) (front_within test s)
     go : (t : Bool) → in_front test s ≤ length s → cond t (suc (in_front test s)) 0 ≤ suc (length s)
     go true h = omega arith
     go false h = omega arith
-
-told_some : (holds : Holds) (s : List ℕ) {size : ℕ} {right : Bool} → value_size holds s ≡ size → 0 < size → right ≡ value_right holds (take (value_size holds s) s) → Some (record { size = size; right = right }) ≡ value_told holds s
-told_some holds s e some r = rw (ne_eqb (value_size holds s) 0 (λ z. omega (arith, e, z, some))) (λ i. Some (record { size = sym e i; right = r i }))
-
--- the value that the function told of an ISIN and of a term
-module _ (s : List ℕ) {v : List ℕ} (here : v ≡ take 12 s) where
-  pub isin_none : isin_shaped v ≡ false → None ≡ value_told Isin s
-  isin_none e =
-      let none_here : isin_shaped (take 12 s) ≡ false = ap isin_shaped (sym here) ∙ e in
-      rw none_here
-
-  pub isin_some : isin_shaped v ≡ true → {k : ℕ} → k ≡ double_add_double (written_digits v) % 10 → Some (record { size = 12; right = eqb k 0 }) ≡ value_told Isin s
-  isin_some e {k} left =
-      let shaped : isin_shaped (take 12 s) ≡ true = ap isin_shaped (sym here) ∙ e in
-      let sum : k ≡ double_add_double (written_digits (take 12 s)) % 10 = left ∙ ap (λ w. double_add_double (written_digits w) % 10) here in
-      rw (shaped, shaped, sum)
-
-module _ (s : List ℕ) {u word : List ℕ} {n : ℕ} {one : Bool} (past : u ≡ drop 5 s) (digits : n ≡ digits_in u) (front : word ≡ take 5 s) (says : one ≡ one_of 5 units word) where
-  digits_there : n ≡ digits_in (drop 5 s)
-  digits_there = digits ∙ ap digits_in past
-
-  term_tested : (one && one_to_three n) ≡ (one_of 5 units (take 5 s) && one_to_three (digits_in (drop 5 s)))
-  term_tested = λ i. (says ∙ ap (one_of 5 units) front) i && one_to_three (digits_there i)
-
-  pub term_none : (one && one_to_three n) ≡ false → None ≡ value_told Term s
-  term_none e = rw (sym term_tested ∙ e)
-
-  pub term_some : (one && one_to_three n) ≡ true → Some (record { size = 5 + n; right = true }) ≡ value_told Term s
-  term_some e = told_some Term s (rw (sym term_tested ∙ e, digits_there)) (omega arith) refl
-
-pub term_short : (one : Bool) (n : ℕ) → (one && one_to_three n) ≡ true → n ≤ 3
-term_short one n e = leb-true n 3 (and_right (leb 1 n) (leb n 3) (and_right one (one_to_three n) e))
 
 -- what has a shape is as long as the pattern
 pub shape_long : (pattern s : List ℕ) → shape pattern s ≡ true → length s ≡ length pattern

@@ -2,7 +2,6 @@
 pub mod ItemLaws
 pub mod BasketLaws
 pub mod LegLaws
-pub mod UnderlyingLaws
 pub mod FrontLaws
 pub mod GrammarItems
 pub mod GrammarBaskets

@@ -51,9 +51,7 @@ pub fn broken_off(right: bool, size: usize) -> Part
 pub fn in_front(s: &[u8], least: u8, most: u8) -> usize
     ensures { result ≡ in_front (between least most) s.now }
 {
-    s.iter()
-        .take_while(|&&b| least <= b && b <= most)
-        .count()
+    s.iter().take_while(|&&b| least <= b && b <= most).count()
 }
 
 fn isin_in(s: &[u8]) -> Option<Value>

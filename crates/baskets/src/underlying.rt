@@ -44,7 +44,7 @@ fn legs_from(s: &[u8], kind: Kind) -> Part
 }
 
 // Cell 47: SWAP: or OTHR:, spaces, and nothing or legs.
-#[tactic(auto, unfolding(crate::specs::Underlying::underlying_of))]
+#[tactic(auto, using(crate::proofs::ItemLaws::front_within), unfolding(crate::specs::Underlying::underlying_of))]
 pub fn parse_underlying(s: &[u8]) -> Underlying
     ensures { result ≡ underlying_of s.now }
 {

@@ -26,7 +26,7 @@ pub returns-in_default-rest : goal.returns-in_default-rest
 returns-in_default-rest c =
     c.broken_off-in_default-rest.ensures
     ∙ elim c.in_default-rest.branch [
-      in_default-rest-via-then-rest-lt1 w ↦ items_cut c.loop.invariant (omega arith) c.rest-text.ensures c.item_in.ensures c.in-Some.is c.if-item-least.false c.rest.ensures (omega (arith, ltb-true))
+      | in_default-rest-via-then-rest-lt1 w ↦ items_cut c.loop.invariant (omega arith) c.rest-text.ensures c.item_in.ensures c.in-Some.is c.if-item-least.false c.rest.ensures (omega (arith, ltb-true))
       | in_default-rest-via-else-rest-lt1+in_default-1 w ↦ items_stop c.loop.invariant (omega arith) c.rest-text.ensures c.item_in.ensures c.in-Some.is c.if-item-least.false c.rest.ensures (λ e. grind arith) (λ e. grind arith)
     ]
 
