@@ -115,7 +115,9 @@ struct Width {
     ghost short: { m ≤ 19 },
 }
 
+// Both are inlined, so that the widths are constants in them: else reading a price takes half as many instructions again.
 impl Width {
+    #[inline(always)]
     #[tactic(auto, using(crate::proofs::DecimalLaws::few_digits))]
     fn value_in(self, s: &[u8]) -> Option<Decimal>
         ensures { result ≡ value_in self.n self.f self.m s.now }
@@ -127,6 +129,7 @@ impl Width {
     }
 
     // What stands behind a kind's word with its colon.
+    #[inline(always)]
     #[tactic(auto, unfolding(crate::specs::Decimal::tagged))]
     fn value_behind(self, word: &[u8], s: &[u8]) -> Option<Decimal>
         ensures { result ≡ value_behind word.now self.n self.f self.m s.now }
@@ -149,6 +152,7 @@ const YIELD: Width = Width {
     f: 10,
     m: 12,
 };
+
 // Of basis points and of units.
 const FRACTION: Width = Width {
     n: 18,
@@ -229,6 +233,7 @@ pub fn parse_quantity(s: &[u8]) -> Quantity
 }
 
 // The kinds of a signed amount, of a price and of a quantity, numbered from 2 on as the paper lists them; 0 where there is none of its form.
+// They stay numbers: `signed_kind`, `price_kind` and `quantity_kind` are the paper's.
 pub fn signed_kind(signed: Option<Decimal>) -> u8
     ensures { result ≡ signed_kind signed }
 {
