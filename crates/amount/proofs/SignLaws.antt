@@ -15,7 +15,8 @@ use Rattle.text.specs.Ascii.{ascii}
 use Rattle.text.specs.Word.{starts_with}
 use Rattle.text.specs.Number.{number_of}
 use Rattle.amount.specs.declared.Decimal.{Decimal}
-use Rattle.amount.specs.Decimal.{whole, decimals, digits_of, fewest_decimals, value_of, value_in, is_decimal}
+use Rattle.amount.specs.Decimal.{whole, decimals, digits_of, fewest_decimals, value_of, is_decimal}
+use Rattle.amount.specs.Told.{value_in}
 use Rattle.amount.specs.Signed.{behind_sign, is_signed, negated, signed_value_of, signed_of}
 use Rattle.amount.proofs.DecimalLaws.{number_below}
 use Rattle.amount.proofs.LastZeros.{no_longer}

@@ -1,5 +1,5 @@
 -- D(n, f, m): 1 to n digits; or, at most m long, 1 to n digits, a point, 0 to f digits.
-use Rattle.std.specs.Prelude.{ℕ, suc, ◌+◌, pos, nat_abs, Bool, cond, ◌&&◌, ◌||◌, List, [], ◌∷◌, ◌++◌, leb, eqb, length, take, drop, Option, Some, None}
+use Rattle.std.specs.Prelude.{ℕ, suc, ◌+◌, pos, nat_abs, Bool, cond, ◌&&◌, ◌||◌, List, [], ◌∷◌, ◌++◌, leb, eqb, length, take, drop}
 use Rattle.text.specs.declared.classes.Class.TheVariants.{Digit}
 use Rattle.text.specs.Class.{is, run_of}
 use Rattle.text.specs.Number.{number_of}
@@ -47,10 +47,3 @@ is_zero d = eqb (nat_abs d.mantissa) 0
 -- a kind's word with its colon, then D(n, f, m)
 unfoldable pub tagged : List ℕ → ℕ → ℕ → ℕ → List ℕ → Bool
 tagged word n f m s = starts_with word s && is_decimal n f m (drop (length word) s)
-
--- what a text of the form stands for, and what stands behind a kind's word
-abbrev pub value_in : ℕ → ℕ → ℕ → List ℕ → Option Decimal
-value_in n f m s = cond (is_decimal n f m s) (Some (value_of s)) None
-
-abbrev pub value_behind : List ℕ → ℕ → ℕ → ℕ → List ℕ → Option Decimal
-value_behind word n f m s = cond (tagged word n f m s) (Some (value_of (drop (length word) s))) None

@@ -3,3 +3,4 @@ pub mod Decimal
 pub mod Signed
 pub mod Price
 pub mod Quantity
+pub mod Told

@@ -4,7 +4,8 @@
 #![tactic(auto)]
 
 ghost use Rattle.std.specs.Prelude.{◌≡◌, ◌≤◌, length};
-ghost use Rattle.amount.specs.Decimal.{point_at, digits_of, is_decimal, without_last_zeros, value_of, value_in, value_behind};
+ghost use Rattle.amount.specs.Decimal.{point_at, digits_of, is_decimal, without_last_zeros, value_of};
+ghost use Rattle.amount.specs.Told.{value_in, value_behind};
 ghost use Rattle.amount.specs.Signed.{behind_sign, signed_of, signed_kind};
 ghost use Rattle.amount.specs.Price.{price_of, price_kind};
 ghost use Rattle.amount.specs.Quantity.{units_of, quantity_of, quantity_kind};
