@@ -1,7 +1,7 @@
 -- What is written for a case is its outcome.
 use mathlib.Core.Path.{◌≡◌, ◌∙◌, refl, ap}
 use mathlib.Core.Bool.{Bool, true, false, cond}
-use mathlib.Core.List.{List, ◌++◌, append_assoc}
+use mathlib.Core.List.{List, [], ◌∷◌, ◌++◌, append_assoc}
 use Prim.Native.Nat.{ℕ, ◌+◌, ◌*◌}
 use native.Mathlib.Omega.{arith}
 use lib.Dec.{eqb}
@@ -19,15 +19,15 @@ use Rattle.replay.specs.Numbers.{each_in}
 use Rattle.replay.specs.Results.{written, Resulted}
 use Rattle.replay.proofs.NumberLaws.{each_length}
 
--- answer, count, words, findings, register: one behind the other
-pub in_order : (v : Verdict) (findings register : List ℕ) {a b c d n : ℕ} {s0 s1 s2 s3 s4 s5 : List ℕ}
-    → Kept s0 0 (little_bytes 2 v.answer) s1 a → Kept s1 a (little_bytes 2 v.count) s2 b → Kept s2 b (each_in 8 v.words) s3 c
+-- answer and count, words, findings, register: one behind the other
+pub in_order : (v : Verdict) (findings register : List ℕ) {b c d n : ℕ} {s0 s2 s3 s4 s5 : List ℕ}
+    → Kept s0 0 (each_in 2 (v.answer ∷ v.count ∷ [])) s2 b → Kept s2 b (each_in 8 v.words) s3 c
     → Kept s3 c (each_in 2 findings) s4 d → Kept s4 d register s5 n → Kept s0 0 (written v findings register) s5 n
-unfolding written each_in
-in_order v findings register p q r s t =
-    let e : (((little_bytes 2 v.answer ++ little_bytes 2 v.count) ++ each_in 8 v.words) ++ each_in 2 findings) ++ register ≡ written v findings register =
+unfolding written
+in_order v findings register q r s t =
+    let e : ((each_in 2 (v.answer ∷ v.count ∷ []) ++ each_in 8 v.words) ++ each_in 2 findings) ++ register ≡ written v findings register =
     simp append_assoc in
-    rw e at (keep_then (keep_then (keep_then (keep_then p q) r) s) t)
+    rw e at (keep_then (keep_then (keep_then q r) s) t)
 
 written_length : (v : Verdict) (findings register : List ℕ) → length v.words ≡ 3
     → length (written v findings register) ≡ 28 + 2 * length findings + length register

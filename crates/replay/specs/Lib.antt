@@ -1,4 +1,3 @@
--- The words of the program: fields of a file of cases, numbers in bytes, the result of a case.
-pub mod Fields
+-- The words of the program: numbers in bytes, the result of a case.
 pub mod Numbers
 pub mod Results

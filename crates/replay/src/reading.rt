@@ -1,60 +1,59 @@
-// Reading the fields of a file of cases. What is wrong is told on standard error where it is found.
-ghost use Rattle.std.specs.Prelude.{◌≡◌, true, false, ◌≤◌, length};
-ghost use Rattle.replay.specs.Fields.{size};
+// Reading the fields of a file of cases.
+ghost use Rattle.std.specs.Prelude.{◌≤◌, IfOk, length};
 
+use std::fmt;
 use std::io::{Input, Read};
 
-// A field that has its length in front of it.
+// Why a run ends before the last case is judged.
 #[derive(Clone, Copy)]
-pub enum Field {
-    Bytes(usize),
-    Missing,
+pub enum Fault {
+    OtherVersion,
+    OverLimit,
+    CutShort,
+    UnknownKind,
+    ListMissing,
+    Unwritten,
 }
 
-pub fn fault(rt: &impl Eprint, message: &str) -> bool
-    ensures { result ≡ false }
-{
-    let _ = rt.eprint(message);
-    false
+impl fmt::Display for Fault {
+    fn fmt<W: fmt::Write>(&self, f: &mut fmt::Formatter<W>) -> fmt::Result {
+        f.write_str(match self {
+            Fault::OtherVersion => "this is no file of cases of version 2",
+            Fault::OverLimit => "a field is over its limit",
+            Fault::CutShort => "the file is cut short or cannot be read",
+            Fault::UnknownKind => "a record of an unknown kind",
+            Fault::ListMissing => "a list is missing before a case",
+            Fault::Unwritten => "a result could not be written",
+        })
+    }
 }
 
-// Reads until the buffer is full, the input ends or a read fails, and answers how many bytes it put at the buffer's start.
-fn read_full(input: &mut impl Read, buffer: &mut [u8]) -> usize
-    ensures { result ≤ length buffer.new }
-{
-    let mut done = 0;
-    while done < buffer.len() {
-        match input.read(&mut buffer[done..]) {
-            Ok(n) if n > 0 => done += n,
-            _ => break,
-        }
+// The next N bytes.
+pub fn read_bytes<const N: usize>(rt: &impl Input) -> Result<[u8; N], Fault> {
+    let mut bytes = [0u8; N];
+    match rt.reader().read_exact(&mut bytes) {
+        Ok(()) => Ok(bytes),
+        Err(_) => Err(Fault::CutShort),
     }
-    done
 }
 
-// Fills the first n bytes of a buffer, which is as long as the field may be.
-pub fn read_part(rt: &(impl Input + Eprint), buffer: &mut [u8], n: usize) -> bool
-    ensures { result ≡ true → n ≤ length buffer.old }
-{
-    if buffer.len() < n {
-        return fault(rt, "replay: a field is over its limit\n");
-    }
-    if read_full(&mut rt.reader(), &mut buffer[..n]) < n {
-        return fault(rt, "replay: the file is cut short or cannot be read\n");
-    }
-    true
+pub fn read_number(rt: &impl Input) -> Result<u32, Fault> {
+    Ok(u32::from_le_bytes(read_bytes(rt)?))
 }
 
-pub fn read_field(rt: &(impl Input + Eprint), buffer: &mut [u8]) -> Field
-    ensures { size result ≤ length buffer.old }
+// The next n bytes, in a room of as many as the field may have.
+pub fn read_part<'a>(rt: &impl Input, room: &'a mut [u8], n: usize) -> Result<&'a mut [u8], Fault>
+    ensures { IfOk result (λ _. n ≤ length room.old) }
 {
-    let mut bytes = [0u8; 4];
-    if !read_part(rt, &mut bytes, 4) {
-        return Field::Missing;
+    let part = room.get_mut(..n).ok_or(Fault::OverLimit)?;
+    match rt.reader().read_exact(part) {
+        Ok(()) => Ok(part),
+        Err(_) => Err(Fault::CutShort),
     }
-    let n = text::le32(&bytes, 0) as usize;
-    if !read_part(rt, buffer, n) {
-        return Field::Missing;
-    }
-    Field::Bytes(n)
+}
+
+// A field that has its length in front of it.
+pub fn read_field<'a>(rt: &impl Input, room: &'a mut [u8]) -> Result<&'a mut [u8], Fault> {
+    let n = read_number(rt)? as usize;
+    read_part(rt, room, n)
 }

@@ -1,10 +1,6 @@
 use Rattle.replay.specs.Numbers.{entries_in}
 use Rattle.text.proofs.Fill.{Begun}
-use Prim.Native.Nat.{◌-◌}
 use Rattle.replay.proofs.numbers.entries_in.Given as goal
 
 abbrev pub invariant-loop-i : goal.invariant-loop-i
 invariant-loop-i l = Begun (entries_in 200 l.s) l.entries l.i
-
-abbrev pub decreases-loop-i : goal.decreases-loop-i
-decreases-loop-i l = 200 - l.i

@@ -3,14 +3,11 @@ use Rattle.buffer.proofs.KeptLaws.{keep_room, so_far_start, so_far_on, so_far_en
 use native.Mathlib.Omega.{arith}
 use Rattle.replay.proofs.results.keep_entries.Goals as goal
 
-pub loop-i-init : goal.loop-i-init
-loop-i-init c = so_far_start (each_join 2)
+pub loop-entry-init : goal.loop-entry-init
+loop-entry-init c = so_far_start (each_join 2)
 
-pub loop-i-preserved : goal.loop-i-preserved
-loop-i-preserved c = so_far_on (each_join 2) c.loop-i.invariant (omega arith) (each_one 2 _ (rw c.wide.ensures at c.keep_number-n.ensures))
-
-pub shape_of-out : goal.shape_of-out
-shape_of-out c = keep_room c.loop-i.invariant.so_far
+pub loop-entry-preserved : goal.loop-entry-preserved
+loop-entry-preserved c = so_far_on (each_join 2) c.loop-entry.invariant (omega arith) (each_one 2 _ (rw c.to_le_bytes.ensures at c.keep_all-n.ensures))
 
 pub returns : goal.returns
-returns c = so_far_end (each_join 2) c.loop-i.invariant (omega arith)
+returns c = so_far_end (each_join 2) c.loop-entry.invariant (omega arith)

@@ -1,11 +1,6 @@
 use Rattle.replay.specs.Numbers.{each_in}
 use Rattle.buffer.proofs.KeptLaws.{KeptSoFar}
-use lib.ListN.{length}
-use Prim.Native.Nat.{◌-◌}
 use Rattle.replay.proofs.results.keep_words.Given as goal
 
-abbrev pub invariant-loop-i : goal.invariant-loop-i
-invariant-loop-i l = KeptSoFar (each_in 8) l.words l.initial.out l.kept l.out l.n l.i
-
-abbrev pub decreases-loop-i : goal.decreases-loop-i
-decreases-loop-i l = length l.words - l.i
+abbrev pub invariant-loop-word : goal.invariant-loop-word
+invariant-loop-word l = KeptSoFar (each_in 8) l.words l.initial.out l.kept l.out l.n l.word-index

@@ -1,6 +1,0 @@
-use mathlib.Core.Path.{sym}
-use lib.Seq.{length-take-le}
-use Rattle.vectors.proofs.lent.set_in.Goals as goal
-
-pub slice_bounds-set_pair-end-then-n-all : goal.slice_bounds-set_pair-end-then-n-all
-slice_bounds-set_pair-end-then-n-all c = sym (length-take-le _ _ c.if-n-all.true)
