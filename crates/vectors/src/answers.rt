@@ -4,66 +4,22 @@ use crate::leaves::{of_calendar, of_text, of_utf8};
 use crate::lent::{of_lists, of_register};
 use crate::lines::{of_cells, of_forms, of_reader};
 use crate::poland::of_polish;
-use crate::reading::UNKNOWN;
 use crate::underlying::of_baskets;
 use crate::values::{of_amount, of_ident};
 
-fn of_leaves(call: &[u8], input: &[u8]) -> u64 {
-    let a = of_text(call, input);
-    if a != UNKNOWN {
-        return a;
-    }
-    let a = of_utf8(call, input);
-    if a != UNKNOWN {
-        return a;
-    }
-    let a = of_calendar(call, input);
-    if a != UNKNOWN {
-        return a;
-    }
-    let a = of_ident(call, input);
-    if a != UNKNOWN {
-        return a;
-    }
-    let a = of_baskets(call, input);
-    if a != UNKNOWN {
-        return a;
-    }
-    let a = of_polish(call, input);
-    if a != UNKNOWN {
-        return a;
-    }
-    of_amount(call, input)
-}
-
-pub fn answer(call: &[u8], input: &[u8]) -> u64 {
-    let a = of_leaves(call, input);
-    if a != UNKNOWN {
-        return a;
-    }
-    let a = of_cells(call, input);
-    if a != UNKNOWN {
-        return a;
-    }
-    let a = of_forms(call, input);
-    if a != UNKNOWN {
-        return a;
-    }
-    let a = of_reader(call, input);
-    if a != UNKNOWN {
-        return a;
-    }
-    let a = of_lists(call, input);
-    if a != UNKNOWN {
-        return a;
-    }
-    let a = of_register(call, input);
-    if a != UNKNOWN {
-        return a;
-    }
-    let a = of_cfi(call, input);
-    if a != UNKNOWN {
-        return a;
-    }
-    of_verdict(call, input)
+pub fn answer(call: &[u8], input: &[u8]) -> Option<u64> {
+    of_text(call, input)
+        .or_else(|| of_utf8(call, input))
+        .or_else(|| of_calendar(call, input))
+        .or_else(|| of_ident(call, input))
+        .or_else(|| of_baskets(call, input))
+        .or_else(|| of_polish(call, input))
+        .or_else(|| of_amount(call, input))
+        .or_else(|| of_cells(call, input))
+        .or_else(|| of_forms(call, input))
+        .or_else(|| of_reader(call, input))
+        .or_else(|| of_lists(call, input))
+        .or_else(|| of_register(call, input))
+        .or_else(|| of_cfi(call, input))
+        .or_else(|| of_verdict(call, input))
 }

@@ -1,126 +1,112 @@
 // Bytes, code points and days.
-use crate::reading::{SPACE, UNKNOWN, first_of, number, unhex, word, yes};
+use crate::reading::{number, unhex, word};
 use calendar::{Date, Moment, When};
 use text::Class;
 use utf8::Points;
 
 fn class_named(name: &[u8]) -> Class {
-    if text::same(name, b"digit") {
-        return Class::Digit;
+    match name {
+        b"digit" => Class::Digit,
+        b"capital" => Class::Capital,
+        b"capital_digit" => Class::CapitalDigit,
+        b"alphanumeric" => Class::Alphanumeric,
+        b"printable" => Class::Printable,
+        b"capital_hash" => Class::CapitalHash,
+        b"minus" => Class::CapitalDigitMinus,
+        _ => Class::CapitalDigitSign,
     }
-    if text::same(name, b"capital") {
-        return Class::Capital;
-    }
-    if text::same(name, b"capital_digit") {
-        return Class::CapitalDigit;
-    }
-    if text::same(name, b"alphanumeric") {
-        return Class::Alphanumeric;
-    }
-    if text::same(name, b"printable") {
-        return Class::Printable;
-    }
-    if text::same(name, b"capital_hash") {
-        return Class::CapitalHash;
-    }
-    if text::same(name, b"minus") {
-        return Class::CapitalDigitMinus;
-    }
-    Class::CapitalDigitSign
 }
 
 // class.NAME, le16 and le32, both from the second byte on, on bytes in hexadecimal.
-fn of_bytes(call: &[u8], input: &[u8]) -> u64 {
-    let mut space = [0u8; SPACE];
-    let n = unhex(input, &mut space);
-    let bytes = first_of(&space, n);
-    if text::starts_with(call, b"class.") {
-        return yes(text::all_of(bytes, class_named(text::rest(call, 6))));
+fn of_bytes(call: &[u8], input: &[u8]) -> Option<u64> {
+    let bytes = unhex(input);
+    let bytes = bytes.as_slice();
+    if let Some(name) = call.strip_prefix(b"class.") {
+        return Some(u64::from(text::all_of(bytes, class_named(name))));
     }
-    if text::same(call, b"le16") {
-        return text::le16(bytes, 1) as u64;
+    match call {
+        b"le16" => Some(u64::from(text::le16(bytes, 1))),
+        b"le32" => Some(u64::from(text::le32(bytes, 1))),
+        _ => None,
     }
-    if text::same(call, b"le32") {
-        return text::le32(bytes, 1) as u64;
-    }
-    UNKNOWN
 }
 
 // shape.PATTERN, same.WORD, begins.WORD, word4.WORDS and number on a text.
-pub fn of_text(call: &[u8], input: &[u8]) -> u64 {
-    if text::starts_with(call, b"shape.") {
-        return yes(text::shaped(input, text::rest(call, 6)));
+pub fn of_text(call: &[u8], input: &[u8]) -> Option<u64> {
+    if let Some(pattern) = call.strip_prefix(b"shape.") {
+        return Some(u64::from(text::shaped(input, pattern)));
     }
-    if text::starts_with(call, b"same.") {
-        return yes(text::same(input, text::rest(call, 5)));
+    if let Some(word) = call.strip_prefix(b"same.") {
+        return Some(u64::from(text::same(input, word)));
     }
-    if text::starts_with(call, b"begins.") {
-        return yes(text::starts_with(input, text::rest(call, 7)));
+    if let Some(word) = call.strip_prefix(b"begins.") {
+        return Some(u64::from(text::starts_with(input, word)));
     }
-    if text::starts_with(call, b"word4.") {
-        return yes(text::one_of(input, text::rest(call, 6), 4));
+    if let Some(words) = call.strip_prefix(b"word4.") {
+        return Some(u64::from(text::one_of(input, words, 4)));
     }
     if text::same(call, b"number") {
-        return text::number_in(input);
+        return Some(text::number_in(input));
     }
     of_bytes(call, input)
 }
 
+fn points_in(bytes: &[u8]) -> Option<usize> {
+    match utf8::code_points(bytes) {
+        Points::Count(count) => Some(count),
+        Points::Malformed => None,
+    }
+}
+
 // points on bytes in hexadecimal, 999 where they are malformed; within.N on a text.
-pub fn of_utf8(call: &[u8], input: &[u8]) -> u64 {
-    let mut space = [0u8; SPACE];
-    let n = unhex(input, &mut space);
+pub fn of_utf8(call: &[u8], input: &[u8]) -> Option<u64> {
     if text::same(call, b"points") {
-        return match utf8::code_points(first_of(&space, n)) {
-            Points::Count(count) => count as u64,
-            Points::Malformed => 999,
-        };
+        return Some(points_in(unhex(input).as_slice()).unwrap_or(999) as u64);
     }
-    if text::starts_with(call, b"within.") {
-        return yes(utf8::points_within(input, number(text::rest(call, 7)) as usize));
-    }
-    UNKNOWN
+    let most = call.strip_prefix(b"within.")?;
+    Some(u64::from(utf8::points_within(input, number(most) as usize)))
 }
 
-fn day_of(date: Date) -> u64 {
-    match date {
-        Date::On(day) => day as u64,
-        Date::Malformed => 0,
+fn day_in(cell: &[u8]) -> Option<u32> {
+    match calendar::parse_date(cell) {
+        Date::On(day) => Some(day),
+        Date::Malformed => None,
     }
 }
 
-fn moment_of(when: When) -> Moment {
-    match when {
-        When::At(moment) => moment,
-        When::Malformed => Moment { day: 0, micro: 0 },
+fn moment_in(cell: &[u8]) -> Option<Moment> {
+    match calendar::parse_moment(cell) {
+        When::At(moment) => Some(moment),
+        When::Malformed => None,
     }
 }
 
-// is_day, is_day_of.FIRST.LAST and five_years_before on a number; date on a cell, 0 where it is malformed; moment_day and
-// moment_micro on a cell.
-pub fn of_calendar(call: &[u8], input: &[u8]) -> u64 {
+// date on a cell, moment_day and moment_micro on one; 0 where it is malformed.
+fn of_cell(call: &[u8], input: &[u8]) -> Option<u64> {
+    match call {
+        b"date" => Some(day_in(input).map_or(0, u64::from)),
+        b"moment_day" => Some(moment_in(input).map_or(0, |moment| u64::from(moment.day))),
+        b"moment_micro" => Some(moment_in(input).map_or(0, |moment| moment.micro)),
+        _ => None,
+    }
+}
+
+// is_day, is_day_of.FIRST.LAST, five_years_before and is_moment.DAY on a number; the calls on a cell.
+pub fn of_calendar(call: &[u8], input: &[u8]) -> Option<u64> {
     if text::same(call, b"is_day") {
-        return yes(calendar::is_day(number(input)));
+        return Some(u64::from(calendar::is_day(number(input))));
     }
     if text::starts_with(call, b"is_day_of.") {
         let first = number(word(call, 1));
         let last = number(word(call, 2));
-        return yes(calendar::is_day_of(first, last, number(input)));
+        return Some(u64::from(calendar::is_day_of(first, last, number(input))));
     }
     if text::same(call, b"five_years_before") {
-        return calendar::five_years_before(number(input)) as u64;
+        return Some(u64::from(calendar::five_years_before(number(input))));
     }
-    if text::same(call, b"date") {
-        return day_of(calendar::parse_date(input));
+    if let Some(day) = call.strip_prefix(b"is_moment.") {
+        let micro = text::number_in(input);
+        return Some(u64::from(calendar::is_moment(number(day), micro)));
     }
-    if text::same(call, b"moment_day") {
-        return moment_of(calendar::parse_moment(input)).day as u64;
-    }
-    if text::same(call, b"moment_micro") {
-        return moment_of(calendar::parse_moment(input)).micro;
-    }
-    if text::starts_with(call, b"is_moment.") {
-        return yes(calendar::is_moment(number(text::rest(call, 10)), text::number_in(input)));
-    }
-    UNKNOWN
+    of_cell(call, input)
 }

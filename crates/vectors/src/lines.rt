@@ -1,5 +1,5 @@
 // Cells and forms. A line is made from a base by putting something in the place of one of its cells, or of several in a row.
-use crate::reading::{SPACE, UNKNOWN, behind, first_of, number, place_of, unhex, word, yes};
+use crate::reading::{Filled, behind, number, place_of, unhex, word};
 
 const MOST: usize = 4096;
 
@@ -13,57 +13,26 @@ const CXL: [u8; 109] = *b"\
     CXL|R1||00000000000000000098||00000000000000000098||||||||||||||||||||||||||||||||||||||||||||||||||\
     |||||||||";
 
-// Writes what there is room for from a place on; the answer is the place behind it.
-fn copied(out: &mut [u8; MOST], at: usize, s: &[u8]) -> usize {
-    let mut n = at;
-    let mut i = 0;
-    while i < s.len() {
-        if n < MOST {
-            out[n] = s[i];
-            n += 1;
-        }
-        i += 1;
+// The base with other bytes as its cells from one to another, counted from 1.
+fn with_cells(base: &[u8], first: usize, last: usize, cells: &[u8]) -> Filled<MOST> {
+    let mut line = Filled::new();
+    if (1 <= first) & (1 <= last) {
+        let start = behind(base, b'|', first - 1);
+        let end = place_of(base, b'|', behind(base, b'|', last - 1));
+        line.push_all(text::head(base, start));
+        line.push_all(cells);
+        line.push_all(text::rest(base, end));
     }
-    n
+    line
 }
 
-// The base with other bytes as its cells from one to another, counted from 1; the answer is its length.
-fn with_cells(base: &[u8], first: usize, last: usize, cells: &[u8], out: &mut [u8; MOST]) -> usize {
-    if first < 1 {
-        return 0;
-    }
-    if last < 1 {
-        return 0;
-    }
-    let start = behind(base, b'|', first - 1);
-    let end = place_of(base, b'|', behind(base, b'|', last - 1));
-    let n = copied(out, 0, text::head(base, start));
-    let n = copied(out, n, cells);
-    copied(out, n, text::rest(base, end))
-}
-
-// How many are found, in front of the code of the first: what was told of the flags before, with one more.
-fn told_more(before: u64, flag: bool, code: u16) -> u64 {
-    if !flag {
-        return before;
-    }
-    if before == 0 {
-        return 10000 + code as u64;
-    }
-    if before < 10000000 {
-        return before + 10000;
-    }
-    before
-}
-
+// How many are found, in front of the code of the first.
 fn told(flags: &[bool; 65]) -> u64 {
-    let mut v = 0;
-    let mut i = 0;
-    while i < 65 {
-        v = told_more(v, flags[i], 1001 + i as u16);
-        i += 1;
+    let count = flags.iter().filter(|flag| **flag).count();
+    match flags.iter().position(|flag| *flag) {
+        Some(first) => count as u64 * 10000 + 1001 + first as u64,
+        None => 0,
     }
-    v
 }
 
 // The form findings of a line; 10, as the refusal, where it has not 65 cells.
@@ -76,15 +45,10 @@ fn found_in(line: &[u8]) -> u64 {
     told(&flags)
 }
 
-fn found_in_first(space: &[u8; MOST], n: usize) -> u64 {
-    let all = &space[..];
-    found_in(text::head(all, n))
-}
-
 // The last of the cells that a call names: the only one, where it names one.
 fn last_named(call: &[u8]) -> usize {
     let last = word(call, 2);
-    if last.len() == 0 {
+    if last.is_empty() {
         return number(word(call, 1)) as usize;
     }
     number(last) as usize
@@ -92,33 +56,31 @@ fn last_named(call: &[u8]) -> usize {
 
 // The form findings of a base with other bytes as the cells that a call names.
 fn found_with(base: &[u8], call: &[u8], cells: &[u8]) -> u64 {
-    let mut space = [0u8; MOST];
     let first = number(word(call, 1)) as usize;
-    let n = with_cells(base, first, last_named(call), cells, &mut space);
-    found_in_first(&space, n)
+    let line = with_cells(base, first, last_named(call), cells);
+    found_in(line.as_slice())
 }
 
 // line on a line; new.F and cxl.F on a cell, newx.F and cxlx.F on a cell in hexadecimal; with .F.L for .F on the cells F to L,
 // a bar between each two.
-pub fn of_forms(call: &[u8], input: &[u8]) -> u64 {
+pub fn of_forms(call: &[u8], input: &[u8]) -> Option<u64> {
     if text::same(call, b"line") {
-        return found_in(input);
+        return Some(found_in(input));
     }
     if text::starts_with(call, b"new.") {
-        return found_with(&NEW, call, input);
+        return Some(found_with(&NEW, call, input));
     }
     if text::starts_with(call, b"cxl.") {
-        return found_with(&CXL, call, input);
+        return Some(found_with(&CXL, call, input));
     }
-    let mut space = [0u8; SPACE];
-    let n = unhex(input, &mut space);
+    let cells = unhex(input);
     if text::starts_with(call, b"newx.") {
-        return found_with(&NEW, call, first_of(&space, n));
+        return Some(found_with(&NEW, call, cells.as_slice()));
     }
     if text::starts_with(call, b"cxlx.") {
-        return found_with(&CXL, call, first_of(&space, n));
+        return Some(found_with(&CXL, call, cells.as_slice()));
     }
-    UNKNOWN
+    None
 }
 
 // Whether cell f of a line of 65 is the word.
@@ -131,22 +93,17 @@ fn is_cell(line: &[u8], f: usize, bytes: &[u8]) -> bool {
 }
 
 // A place out of the table of starts or of ends.
-fn place_in(table: &[usize; 65], f: usize) -> u64 {
-    if f < 1 {
-        return UNKNOWN;
-    }
-    if 65 < f {
-        return UNKNOWN;
-    }
-    table[f - 1] as u64
+fn place_in(table: &[usize; 65], f: usize) -> Option<u64> {
+    let place = table.get(f.checked_sub(1)?)?;
+    Some(*place as u64)
 }
 
 // whole, start.F, end.F and cell.F.WORD on a line.
-pub fn of_cells(call: &[u8], input: &[u8]) -> u64 {
+pub fn of_cells(call: &[u8], input: &[u8]) -> Option<u64> {
     let f = number(word(call, 1)) as usize;
     let table = cells::split(input);
     if text::same(call, b"whole") {
-        return yes(table.whole);
+        return Some(u64::from(table.whole));
     }
     if text::starts_with(call, b"start.") {
         return place_in(&table.starts, f);
@@ -155,36 +112,27 @@ pub fn of_cells(call: &[u8], input: &[u8]) -> u64 {
         return place_in(&table.ends, f);
     }
     if text::starts_with(call, b"cell.") {
-        return yes(is_cell(input, f, word(call, 2)));
+        return Some(u64::from(is_cell(input, f, word(call, 2))));
     }
-    UNKNOWN
+    None
 }
 
 // The place where a reader of the line stands after some steps.
 fn place_after_steps(line: &[u8], steps: usize) -> usize {
-    let mut at = 0;
-    let mut i = 0;
-    while i < steps {
-        let step = reader::step_from(line, at);
-        at = step.next;
-        i += 1;
-    }
-    at
+    (0..steps).fold(0, |at, _| reader::step_from(line, at).next)
 }
 
 // How many steps of a reader hand back a cell: no line has more cells than one for each byte, and one; the step behind them is done.
-fn steps_in(line: &[u8]) -> u64 {
-    let mut n = 0;
+fn steps_in(line: &[u8]) -> Option<u64> {
     let mut at = 0;
-    while n < line.len() + 2 {
+    for n in 0..line.len() + 2 {
         let step = reader::step_from(line, at);
         if step.done {
-            return n as u64;
+            return Some(n as u64);
         }
         at = step.next;
-        n += 1;
     }
-    UNKNOWN
+    None
 }
 
 // Whether the cell that starts at a place is the word, by one step of a reader, which is not done.
@@ -194,31 +142,27 @@ fn is_taken(line: &[u8], at: usize, bytes: &[u8]) -> bool {
 }
 
 // What a reader at a place does: the cell that it hands back, where it stands, and whether nothing is left.
-fn after_steps(call: &[u8], line: &[u8], at: usize, bytes: &[u8]) -> u64 {
+fn after_steps(call: &[u8], line: &[u8], at: usize, bytes: &[u8]) -> Option<u64> {
     let step = reader::step_from(line, at);
-    if text::same(call, b"cell") {
-        return yes(is_taken(line, at, bytes));
+    match call {
+        b"cell" => Some(u64::from(is_taken(line, at, bytes))),
+        b"place" => Some(at as u64),
+        b"done" => Some(u64::from(step.done & (step.length == 0) & (step.next == at))),
+        _ => None,
     }
-    if text::same(call, b"place") {
-        return at as u64;
-    }
-    if text::same(call, b"done") {
-        return yes(step.done & (step.length == 0) & (step.next == at));
-    }
-    UNKNOWN
 }
 
 // steps, first.WORD, and after K steps after.K.cell.WORD, after.K.place and after.K.done on a line.
-pub fn of_reader(call: &[u8], input: &[u8]) -> u64 {
+pub fn of_reader(call: &[u8], input: &[u8]) -> Option<u64> {
     if text::same(call, b"steps") {
         return steps_in(input);
     }
     if text::starts_with(call, b"first.") {
-        return yes(text::same(reader::first(input), word(call, 1)));
+        return Some(u64::from(text::same(reader::first(input), word(call, 1))));
     }
     if text::starts_with(call, b"after.") {
         let at = place_after_steps(input, number(word(call, 1)) as usize);
         return after_steps(word(call, 2), input, at, word(call, 3));
     }
-    UNKNOWN
+    None
 }

@@ -15,7 +15,7 @@ mod underlying;
 mod values;
 
 use answers::answer;
-use reading::place_of;
+use reading::parted;
 use std::io::{Input, Read};
 
 #[derive(Clone, Copy)]
@@ -24,66 +24,54 @@ struct Tally {
     wrong: u32,
 }
 
-fn one_more(n: u32) -> u32 {
-    if n < 1000000 {
-        return n + 1;
+impl Tally {
+    fn none() -> Tally {
+        Tally { right: 0, wrong: 0 }
     }
-    n
-}
 
-fn counted(tally: Tally, right: bool) -> Tally {
-    if right {
-        return Tally {
-            right: one_more(tally.right),
-            wrong: tally.wrong,
-        };
+    fn count(&mut self, right: bool) {
+        if right {
+            self.right = self.right.saturating_add(1);
+        } else {
+            self.wrong = self.wrong.saturating_add(1);
+        }
     }
-    Tally {
-        right: tally.right,
-        wrong: one_more(tally.wrong),
-    }
-}
 
-fn report(rt: &impl Print, tally: Tally) {
-    let right = tally.right;
-    let wrong = tally.wrong;
-    let _ = println!(rt; ": {right} right, {wrong} wrong");
+    fn report(&self, rt: &impl Print) {
+        let _ = println!(rt; ": {} right, {} wrong", self.right, self.wrong);
+    }
 }
 
 // A case: expected number, call, input, parted by single spaces.
 fn is_right(line: &[u8]) -> bool {
-    let first = place_of(line, b' ', 0);
-    let second = place_of(line, b' ', first + 1);
-    let expected = text::number_in(text::head(line, first));
-    let call = text::part(line, first + 1, second);
-    answer(call, text::rest(line, second + 1)) == expected
+    let (expected, rest) = parted(line, b' ');
+    let (call, input) = parted(rest, b' ');
+    answer(call, input) == Some(text::number_in(expected))
 }
 
-fn take_line(rt: &impl Print, line: &[u8], tally: Tally) -> Tally {
+fn take_line(rt: &impl Print, line: &[u8], tally: &mut Tally) {
     if text::starts_with(line, b"#") {
         if (0 < tally.right) | (0 < tally.wrong) {
-            report(rt, tally);
+            tally.report(rt);
         }
         let _ = rt.write_all(text::rest(line, 2));
-        return Tally { right: 0, wrong: 0 };
+        *tally = Tally::none();
+        return;
     }
     let right = is_right(line);
     if !right {
         let _ = rt.write_all(b"\nwrong: ");
         let _ = rt.write_all(line);
     }
-    counted(tally, right)
+    tally.count(right);
 }
 
 fn run(rt: &impl Print, cases: &[u8]) {
-    let mut tally = Tally { right: 0, wrong: 0 };
-    let mut at = 0;
-    while at < cases.len() {
-        let end = place_of(cases, 10, at);
-        tally = take_line(rt, text::part(cases, at, end), tally);
-        at = end + 1;
+    let mut tally = Tally::none();
+    for line in cases.split_inclusive(|b| *b == b'\n') {
+        take_line(rt, parted(line, b'\n').0, &mut tally);
     }
-    report(rt, tally);
+    tally.report(rt);
 }
 
 // Reads until the buffer is full, the input ends or a read fails, and answers how many bytes it put at the buffer's start.
@@ -91,11 +79,8 @@ fn read_full(input: &mut impl Read, buffer: &mut [u8]) -> usize
     ensures { result ≤ length buffer.new }
 {
     let mut done = 0;
-    while done < buffer.len() {
-        match input.read(&mut buffer[done..]) {
-            Ok(n) if n > 0 => done += n,
-            _ => break,
-        }
+    while let Ok(n @ 1..) = input.read(&mut buffer[done..]) {
+        done += n;
     }
     done
 }

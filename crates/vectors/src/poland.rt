@@ -1,11 +1,11 @@
 // PESEL and NIP, and the cells that hold one.
-use crate::reading::{UNKNOWN, number, word, yes};
+use crate::reading::{number, word};
 use crate::values::allowed_in;
 use polish::Polish;
 
 // 3307 gives 1, 3308 gives 2 and 3309 gives 4.
 fn given(polish: Polish) -> u64 {
-    yes(polish.form) + yes(polish.check) * 2 + yes(polish.birth) * 4
+    u64::from(polish.form) + u64::from(polish.check) * 2 + u64::from(polish.birth) * 4
 }
 
 // What a cell of the kinds that a call names gives, beside a date cell or without one.
@@ -15,24 +15,18 @@ fn cell_gives(call: &[u8], cell: &[u8], dated: bool) -> u64 {
 }
 
 // pesel_right, nip_right, birth_day and is_birth on a number; dated.CELL.DAY and undated.CELL.DAY on a cell.
-pub fn of_polish(call: &[u8], input: &[u8]) -> u64 {
-    if text::same(call, b"pesel_right") {
-        return yes(polish::pesel_right(input));
-    }
-    if text::same(call, b"nip_right") {
-        return yes(polish::nip_right(input));
-    }
-    if text::same(call, b"birth_day") {
-        return polish::birth_day(input) as u64;
-    }
-    if text::same(call, b"is_birth") {
-        return yes(polish::is_birth(input));
-    }
+pub fn of_polish(call: &[u8], input: &[u8]) -> Option<u64> {
     if text::starts_with(call, b"dated.") {
-        return cell_gives(call, input, true);
+        return Some(cell_gives(call, input, true));
     }
     if text::starts_with(call, b"undated.") {
-        return cell_gives(call, input, false);
+        return Some(cell_gives(call, input, false));
     }
-    UNKNOWN
+    match call {
+        b"pesel_right" => Some(u64::from(polish::pesel_right(input))),
+        b"nip_right" => Some(u64::from(polish::nip_right(input))),
+        b"birth_day" => Some(u64::from(polish::birth_day(input))),
+        b"is_birth" => Some(u64::from(polish::is_birth(input))),
+        _ => None,
+    }
 }

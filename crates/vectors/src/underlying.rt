@@ -1,7 +1,7 @@
 // Legs and baskets, of cell 47 and of cell 49.
 ghost use Rattle.std.specs.Prelude.{◌≤◌};
 
-use crate::reading::{SPACE, UNKNOWN, first_of, unhex, word, yes};
+use crate::reading::{unhex, word};
 use baskets::{Kind, Underlying};
 
 fn underlying_kind(kind: Kind) -> u64
@@ -20,14 +20,14 @@ fn underlying_number(underlying: Underlying) -> u64 {
     if !baskets::is_underlying(kind) {
         return 0;
     }
-    underlying_kind(kind) * 100 + yes(underlying.legs) * 10 + yes(underlying.right)
+    underlying_kind(kind) * 100 + u64::from(underlying.legs) * 10 + u64::from(underlying.right)
 }
 
 fn kind_named(name: &[u8]) -> Kind {
-    if text::same(name, b"swap") {
-        return Kind::Swap;
+    match name {
+        b"swap" => Kind::Swap,
+        _ => Kind::Other,
     }
-    Kind::Other
 }
 
 // underlying on cell 47; terms.swap and terms.other on cell 49, by what cell 47 is.
@@ -35,18 +35,16 @@ fn of_text(call: &[u8], input: &[u8]) -> u64 {
     if text::starts_with(call, b"underlying") {
         return underlying_number(baskets::parse_underlying(input));
     }
-    yes(baskets::terms_fit(input, kind_named(word(call, 1))))
+    u64::from(baskets::terms_fit(input, kind_named(word(call, 1))))
 }
 
 // The same calls on a text; underlyingx, termsx.swap and termsx.other on one in hexadecimal.
-pub fn of_baskets(call: &[u8], input: &[u8]) -> u64 {
+pub fn of_baskets(call: &[u8], input: &[u8]) -> Option<u64> {
     if text::same(call, b"underlying") | text::starts_with(call, b"terms.") {
-        return of_text(call, input);
+        return Some(of_text(call, input));
     }
     if !(text::same(call, b"underlyingx") | text::starts_with(call, b"termsx.")) {
-        return UNKNOWN;
+        return None;
     }
-    let mut space = [0u8; SPACE];
-    let n = unhex(input, &mut space);
-    of_text(call, first_of(&space, n))
+    Some(of_text(call, unhex(input).as_slice()))
 }

@@ -1,7 +1,7 @@
 // Identifiers and amounts.
 ghost use Rattle.std.specs.Prelude.{◌≤◌};
 
-use crate::reading::{UNKNOWN, word, yes};
+use crate::reading::word;
 use amount::{Decimal, Price, Quantity, Signed};
 use ident::{Allowed, Identifier, Party};
 
@@ -32,162 +32,132 @@ fn party_number(party: Party) -> u64 {
 }
 
 pub fn allowed_in(cell: &[u8]) -> Allowed {
-    if text::same(cell, b"7") {
-        return ident::allowed7();
+    match cell {
+        b"7" => ident::allowed7(),
+        b"12" => ident::allowed12(),
+        b"57" => ident::allowed57(),
+        _ => ident::allowed59(),
     }
-    if text::same(cell, b"12") {
-        return ident::allowed12();
-    }
-    if text::same(cell, b"57") {
-        return ident::allowed57();
-    }
-    ident::allowed59()
 }
 
 // party.CELL on a cell; nidn.CELL: whether it is a NIDN; part.CELL: how many bytes are handed on.
-fn of_party(call: &[u8], input: &[u8]) -> u64 {
+fn of_party(call: &[u8], input: &[u8]) -> Option<u64> {
     let party = ident::parse_party(input, allowed_in(word(call, 1)));
     if text::starts_with(call, b"party.") {
-        return party_number(party);
+        return Some(party_number(party));
     }
+    let identifier = party.identifier;
     if text::starts_with(call, b"nidn.") {
-        let identifier = party.identifier;
-        return yes(ident::is_nidn(identifier));
+        return Some(u64::from(ident::is_nidn(identifier)));
     }
     if text::starts_with(call, b"part.") {
-        let identifier = party.identifier;
-        return ident::part_of(input, identifier).len() as u64;
+        return Some(ident::part_of(input, identifier).len() as u64);
     }
-    UNKNOWN
+    None
 }
 
 // concat_shaped, number_shaped and concat_day on a person; country is how long the country's name is, 0 where there is none.
-fn of_person(call: &[u8], input: &[u8]) -> u64 {
-    if text::same(call, b"concat_shaped") {
-        return yes(ident::concat_shaped(input));
-    }
-    if text::same(call, b"number_shaped") {
-        return yes(ident::number_shaped(input));
-    }
-    if text::same(call, b"concat_day") {
-        return ident::concat_day(input) as u64;
-    }
-    if text::same(call, b"country") {
-        return ident::country_of(input).len() as u64;
-    }
-    of_party(call, input)
-}
-
-pub fn of_ident(call: &[u8], input: &[u8]) -> u64 {
-    if text::same(call, b"lei_shaped") {
-        return yes(ident::lei_shaped(input));
-    }
-    if text::same(call, b"lei_remainder") {
-        return ident::lei_remainder(input) as u64;
-    }
-    if text::same(call, b"isin_right") {
-        return yes(ident::isin_right(input));
-    }
-    if text::same(call, b"mic_shaped") {
-        return yes(ident::mic_shaped(input));
-    }
-    of_person(call, input)
-}
-
-fn nothing() -> Decimal {
-    Decimal {
-        mantissa: 0,
-        places: 99,
+fn of_person(call: &[u8], input: &[u8]) -> Option<u64> {
+    match call {
+        b"concat_shaped" => Some(u64::from(ident::concat_shaped(input))),
+        b"number_shaped" => Some(u64::from(ident::number_shaped(input))),
+        b"concat_day" => Some(u64::from(ident::concat_day(input))),
+        b"country" => Some(ident::country_of(input).len() as u64),
+        _ => of_party(call, input),
     }
 }
 
-fn price_decimal(price: Price) -> Decimal {
+pub fn of_ident(call: &[u8], input: &[u8]) -> Option<u64> {
+    match call {
+        b"lei_shaped" => Some(u64::from(ident::lei_shaped(input))),
+        b"lei_remainder" => Some(u64::from(ident::lei_remainder(input))),
+        b"isin_right" => Some(u64::from(ident::isin_right(input))),
+        b"mic_shaped" => Some(u64::from(ident::mic_shaped(input))),
+        _ => of_person(call, input),
+    }
+}
+
+// What stands for a decimal where there is none.
+const NOTHING: Decimal = Decimal {
+    mantissa: 0,
+    places: 99,
+};
+
+fn price_decimal(price: Price) -> Option<Decimal> {
     match price {
-        Price::Pending => nothing(),
-        Price::NotApplicable => nothing(),
-        Price::Percent(d) => d,
-        Price::Money(d) => d,
-        Price::Yield(d) => d,
-        Price::BasisPoints(d) => d,
-        Price::Malformed => nothing(),
+        Price::Percent(d) | Price::Money(d) | Price::Yield(d) | Price::BasisPoints(d) => Some(d),
+        Price::Pending | Price::NotApplicable | Price::Malformed => None,
     }
 }
 
-fn signed_decimal(signed: Signed) -> Decimal {
+fn signed_decimal(signed: Signed) -> Option<Decimal> {
     match signed {
-        Signed::Amount(d) => d,
-        Signed::Malformed => nothing(),
+        Signed::Amount(d) => Some(d),
+        Signed::Malformed => None,
     }
 }
 
-fn quantity_decimal(quantity: Quantity) -> Decimal {
+fn quantity_decimal(quantity: Quantity) -> Option<Decimal> {
     match quantity {
-        Quantity::Units(d) => d,
-        Quantity::Nominal(d) => d,
-        Quantity::Monetary(d) => d,
-        Quantity::Malformed => nothing(),
+        Quantity::Units(d) | Quantity::Nominal(d) | Quantity::Monetary(d) => Some(d),
+        Quantity::Malformed => None,
     }
-}
-
-fn below_zero(n: u64) -> i64 {
-    -((n % 1000000000000000000) as i64)
 }
 
 // A number is written with a minus where it is below zero.
 fn is_mantissa(d: Decimal, written: &[u8]) -> bool {
-    if text::starts_with(written, b"-") {
-        return d.mantissa == below_zero(text::number_in(text::rest(written, 1)));
+    match written.strip_prefix(b"-") {
+        Some(digits) => { d.mantissa.checked_neg() == i64::try_from(text::number_in(digits)).ok() }
+        None => Some(d.mantissa) == i64::try_from(text::number_in(written)).ok(),
     }
-    d.mantissa == (text::number_in(written) % 1000000000000000000) as i64
 }
 
 // NAME.NUMBER.PLACES: the whole number and the places.
-fn is_as_called(d: Decimal, call: &[u8]) -> bool {
-    is_mantissa(d, word(call, 1)) & (d.places as u64 == text::number_in(word(call, 2)))
+fn is_as_called(decimal: Option<Decimal>, call: &[u8]) -> bool {
+    let d = decimal.unwrap_or(NOTHING);
+    is_mantissa(d, word(call, 1)) & (u64::from(d.places) == text::number_in(word(call, 2)))
 }
 
 // price_kind and price_is.NUMBER.PLACES on cell 33.
-fn of_price(call: &[u8], input: &[u8]) -> u64 {
+fn of_price(call: &[u8], input: &[u8]) -> Option<u64> {
     let price = amount::parse_price(input);
     if text::same(call, b"price_kind") {
-        return amount::price_kind(price) as u64;
+        return Some(u64::from(amount::price_kind(price)));
     }
     if text::starts_with(call, b"price_is.") {
-        return yes(is_as_called(price_decimal(price), call));
+        return Some(u64::from(is_as_called(price_decimal(price), call)));
     }
-    UNKNOWN
+    None
 }
 
 // quantity_kind and quantity_is.NUMBER.PLACES on cell 30.
-fn of_quantity(call: &[u8], input: &[u8]) -> u64 {
+fn of_quantity(call: &[u8], input: &[u8]) -> Option<u64> {
     let quantity = amount::parse_quantity(input);
     if text::same(call, b"quantity_kind") {
-        return amount::quantity_kind(quantity) as u64;
+        return Some(u64::from(amount::quantity_kind(quantity)));
     }
     if text::starts_with(call, b"quantity_is.") {
-        return yes(is_as_called(quantity_decimal(quantity), call));
+        return Some(u64::from(is_as_called(quantity_decimal(quantity), call)));
     }
     of_price(call, input)
 }
 
 // signed_18_5_19 and signed_is.NUMBER.PLACES on cell 38.
-fn of_signed(call: &[u8], input: &[u8]) -> u64 {
+fn of_signed(call: &[u8], input: &[u8]) -> Option<u64> {
     let signed = amount::parse_signed(input, 5);
     if text::same(call, b"signed_18_5_19") {
-        return yes(amount::signed_kind(signed) != 0);
+        return Some(u64::from(amount::signed_kind(signed) != 0));
     }
     if text::starts_with(call, b"signed_is.") {
-        return yes(is_as_called(signed_decimal(signed), call));
+        return Some(u64::from(is_as_called(signed_decimal(signed), call)));
     }
     of_quantity(call, input)
 }
 
-pub fn of_amount(call: &[u8], input: &[u8]) -> u64 {
-    if text::same(call, b"decimal_18_17_19") {
-        return yes(amount::is_decimal(input, 18, 17, 19));
+pub fn of_amount(call: &[u8], input: &[u8]) -> Option<u64> {
+    match call {
+        b"decimal_18_17_19" => Some(u64::from(amount::is_decimal(input, 18, 17, 19))),
+        b"decimal_18_5_19" => Some(u64::from(amount::is_decimal(input, 18, 5, 19))),
+        _ => of_signed(call, input),
     }
-    if text::same(call, b"decimal_18_5_19") {
-        return yes(amount::is_decimal(input, 18, 5, 19));
-    }
-    of_signed(call, input)
 }
