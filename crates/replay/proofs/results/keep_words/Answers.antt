@@ -1,5 +1,5 @@
 use Rattle.replay.proofs.NumberLaws.{each_join, each_one}
-use Rattle.buffer.proofs.KeptLaws.{keep_room, so_far_start, so_far_on, so_far_end}
+use Rattle.buffer.proofs.KeptLaws.{so_far_start, so_far_on, so_far_end}
 use native.Mathlib.Omega.{arith}
 use Rattle.replay.proofs.results.keep_words.Goals as goal
 
