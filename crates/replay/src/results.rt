@@ -6,6 +6,8 @@ ghost use Rattle.replay.specs.Results.{written};
 use buffer::keep_all;
 use verdict::Verdict;
 
+// Words and entries are kept by a loop each: `to_le_bytes` is a method of each of the two types by itself, and a trait of our own for
+// it, with its law and two impls, is longer than the second loop.
 fn keep_words(out: &mut [u8], kept: usize, words: &[u64]) -> usize
     ensures { Kept out.old kept (each_in 8 words.now) out.new result }
 {

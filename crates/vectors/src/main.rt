@@ -74,7 +74,8 @@ fn run(rt: &impl Print, cases: &[u8]) {
     tally.report(rt);
 }
 
-// Reads until the buffer is full, the input ends or a read fails, and answers how many bytes it put at the buffer's start.
+// Reads until the buffer is full, the input ends or a read fails, and answers how many bytes it put at the buffer's start. The
+// library's calls that read to the end allocate.
 fn read_full(input: &mut impl Read, buffer: &mut [u8]) -> usize
     ensures { result ≤ length buffer.new }
 {
