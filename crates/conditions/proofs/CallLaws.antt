@@ -16,8 +16,7 @@ use Rattle.register.specs.Frame.{version, day_width, framed, full}
 use Rattle.register.specs.Rows.{rows_of, first_row, standing, standing_at}
 use Rattle.register.specs.Table.{put_row}
 use Rattle.register.specs.Written.{put, value_of}
-use Rattle.register.specs.declared.rows.Found.{Found}
-use Rattle.register.specs.declared.rows.Found.TheVariants.{Nowhere}
+use Rattle.std.specs.Prelude.{Option, None}
 use Rattle.register.specs.declared.rows.Standing.{Standing}
 use Rattle.register.specs.declared.rows.Standing.TheVariants.{Absent, Live, Cancelled}
 use Rattle.register.proofs.Words.{same_refl}
@@ -74,7 +73,7 @@ module _ (c : Call) (room : ℕ) (r : reached c room ≡ true) where
   reached_day = omega (arith, (real c.day (and_left (is_day c.day) (leb c.micro 86399999999) is_moment_lem)).year_to)
 
 -- where a pair is nowhere it stands as absent
-nowhere_absent : (register pair : List ℕ) → first_row register pair ≡ Nowhere → standing register pair ≡ Absent
+nowhere_absent : (register pair : List ℕ) → first_row register pair ≡ None → standing register pair ≡ Absent
 unfolding standing_at
 nowhere_absent register pair e = sym (standing_found register pair) ∙ ap (standing_at register) e
 
@@ -123,7 +122,7 @@ module _ (c : Call) (clear : clean c ≡ true) (room : no_room c ≡ false) wher
 
 -- an accepted line puts its pair's row
 module _ (c : Call) (s : Sound c) where
-  absent : first_row c.register (pair_of c.line) ≡ Nowhere → standing_of c ≡ Absent
+  absent : first_row c.register (pair_of c.line) ≡ None → standing_of c ≡ Absent
   unfolding pair_stands
   absent e = nowhere_absent c.register (pair_of c.line) e
 
@@ -142,7 +141,7 @@ module _ (c : Call) (s : Sound c) where
       (cancelled_put c.register (pair_of c.line) (first_row c.register (pair_of c.line)) c.day
       (λ e. true≢false (sym (sym (ap is_live (absent e)) ∙ s.flips ∙ rw t)))))
 
-  pub no_row_room : first_row c.register (pair_of c.line) ≡ Nowhere → full c.register ≡ false
+  pub no_row_room : first_row c.register (pair_of c.line) ≡ None → full c.register ≡ false
   no_row_room e = s.roomy (ap is_absent (absent e))
 
   -- so that the pair stands as the line says
@@ -150,7 +149,7 @@ module _ (c : Call) (s : Sound c) where
   unfolding pair_stands standing
   stands_after f =
       let pair : List ℕ = pair_of c.line in
-      let row : Found = first_row c.register pair in
+      let row : Option ℕ = first_row c.register pair in
       let rows : rows_of (put c.register row pair value) ≡ put_row (rows_of c.register) pair value =
       put_rows c.register pair value f (pair_length (cell c.line 4) (cell c.line 2)) (value_length (day_width c.register) c.line c.day) no_row_room
       in

@@ -13,7 +13,7 @@ use Rattle.register.specs.Rows.{rows_in, rows_of, look, first_row, standing, day
 use Rattle.register.specs.Table.{rows_with}
 use Rattle.register.specs.Written.{put}
 use Rattle.register.specs.Conversion.{in_version2, Converted}
-use Rattle.register.specs.declared.rows.Found.TheVariants.{Nowhere}
+use Rattle.std.specs.Prelude.{None}
 use Rattle.register.proofs.PairLaws.{Shaped, pair_length}
 use Rattle.register.proofs.RowLaws.{rows_counted}
 use Rattle.register.proofs.PutLaws.{put_rows, put_framed, put_day, put_capacity}
@@ -72,7 +72,7 @@ module _ {c : ℕ} {history : List Event} {register : List ℕ} (k : Kept c hist
       }
 
   module _ (a : Answered) (e : accepted a.verdict ≡ true) (fits : Fit a)
-      (left : first_row register (bytes_of (pair_in a.line)) ≡ Nowhere → full register ≡ false) where
+      (left : first_row register (bytes_of (pair_in a.line)) ≡ None → full register ≡ false) where
     abbrev pair : List ℕ
     pair = bytes_of (pair_in a.line)
 

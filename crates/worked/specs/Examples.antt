@@ -1,8 +1,7 @@
 -- The examples that the paper marks to be proved, in its order, and behind them those of five calendar years.
-use Rattle.std.specs.Prelude.{◌≡◌, true, false, pos}
+use Rattle.std.specs.Prelude.{◌≡◌, Some, None, true, false, pos}
 use Rattle.text.specs.Ascii.{ascii}
 use Rattle.calendar.specs.Dates.{date_of}
-use Rattle.calendar.specs.declared.dates.Date.TheVariants.{On, Malformed as NoDate}
 use Rattle.ident.specs.Codes.{lei_right, isin_right}
 use Rattle.ident.specs.Person.{concat_shaped}
 use Rattle.amount.specs.Price.{price_of}
@@ -21,8 +20,8 @@ pub record Examples : Type 0 where
   pub isin_6 : isin_right (ascii "AA0000000006") ≡ true
   pub isin_5 : isin_right (ascii "AA0000000005") ≡ false
   -- days: one real, one not
-  pub leap_2000 : date_of (ascii "2000-02-29") ≡ On 20000229
-  pub leap_2100 : date_of (ascii "2100-02-29") ≡ NoDate
+  pub leap_2000 : date_of (ascii "2000-02-29") ≡ Some 20000229
+  pub leap_2100 : date_of (ascii "2100-02-29") ≡ None
   -- persons: one shaped, one not
   pub john : concat_shaped (ascii "DE19800101JOHN#SMITH") ≡ true
   pub no_john : concat_shaped (ascii "DE19800101#OHN#SMITH") ≡ false
