@@ -5,6 +5,7 @@ pub mod ClassLaws
 pub mod WordLaws
 pub mod RunLaws
 pub mod NumberLaws
+pub mod ByteLaws
 pub mod LoadLaws
 pub mod FirstFrom
 pub mod Fill

@@ -10,6 +10,7 @@ use borrow.Author.Tests.{eq-eqb, eqb-true, eqb-false, ne_eqb}
 use lib.Dec.{eqb, lit<}
 use lib.ListN.{length, get_or, drop, length-drop}
 use lib.Seq.{drop-drop, drop-length, get_or-drop}
+use Rattle.std.specs.List.{starts_with as starts_with_by}
 use Rattle.text.specs.Word.{starts_with}
 use Rattle.text.specs.Number.{little_endian}
 use Rattle.text.specs.Stride.{Rowed, has_word, some_of_four, first_of, next_row, PassedTo}
@@ -105,64 +106,15 @@ marked a b c (x ∷ y ∷ z ∷ v ∷ w ∷ s) m bytes h =
     ∙ regroup (eqb x a) (eqb y b) (eqb z c) (eqb v 1) (eqb w 0)
     ∙ ap (λ t. (eqb x a && (eqb y b && (eqb z c && true))) && t) (sym (word_begins (1 ∷ 0 ∷ []) (v ∷ w ∷ s) version behind (omega arith)))
 
--- the bytes before place i are the word's
-pub record BegunSoFar (word s : List ℕ) (i : ℕ) : Type 0 where
-  pub bytes_word : Bytes word
-  pub bytes : Bytes s
-  pub within : i ≤ length word
-  pub room : length word ≤ length s
-  pub left : starts_with word s ≡ starts_with (drop i word) (drop i s)
+-- what std asks of a text's beginning: each byte of the word beside its own
+turned : (x y : ℕ) → eqb y x ≡ eqb x y
+turned x y = by_test (eqb x y) (λ t. rw (eqb-true x y t)) (λ t. rw t (ne_eqb y x (λ e. eqb-false x y t (sym e))))
 
-pub begun_start : {word s : List ℕ} → Bytes word → Bytes s → length word ≤ length s → BegunSoFar word s 0
-begun_start b c h = record { bytes_word = b; bytes = c; within = omega arith; room = h; left = refl }
-
-module _ {word s : List ℕ} {i : ℕ} (so_far : BegunSoFar word s i) (h : i + 8 ≤ length word) {v w : ℕ} (read : v ≡ little_endian 8 (drop i s)) (asked : w ≡ little_endian 8 (drop i word)) where
-  pub begun_on : v ≡ w → BegunSoFar word s (i + 8)
-  begun_on e =
-      record {
-        bytes_word = so_far.bytes_word;
-        bytes = so_far.bytes;
-        within = h;
-        room = so_far.room;
-        left =
-            so_far.left
-            ∙ word_passed 8 (drop i word) (drop i s) (bytes_from i so_far.bytes_word) (bytes_from i so_far.bytes) (simp length-drop (omega arith)) (simp length-drop (omega (arith, so_far.room))) (sym read ∙ e ∙ asked)
-            ∙ rw (drop-drop 8 i word, drop-drop 8 i s);
-      }
-
-  pub begun_off : (v ≡ w → ⊥) → false ≡ starts_with word s
-  begun_off e = sym (so_far.left ∙ other_word 0 8 (drop i word) (drop i s) (simp length-drop (omega arith)) (λ f. e (read ∙ f ∙ sym asked)))
-
--- a word's bytes, each read at its place
-abbrev ones : ℕ → List ℕ → List ℕ
-ones zero t = t
-ones (suc k) t = ones k (drop 1 t)
-
-one_by_one : (k : ℕ) (t : List ℕ) → get_or (ones k t) 0 0 ≡ get_or t k 0
-one_by_one zero t = refl
-one_by_one (suc k) t = one_by_one k (drop 1 t) ∙ get_or-drop 1 t k 0 ∙ ap (λ j. get_or t j 0) (omega arith)
-
-module _ (s : List ℕ) (at : ℕ) where
-  at_place : (k : ℕ) {x : ℕ} → x ≡ get_or s (at + k) 0 → x ≡ get_or (ones k (drop at s)) 0 0
-  at_place k e = e ∙ sym (one_by_one k (drop at s) ∙ get_or-drop at s k 0)
-
-  at_first : {x : ℕ} → x ≡ get_or s at 0 → x ≡ get_or (drop at s) 0 0
-  at_first e = e ∙ sym (get_or-drop at s 0 0 ∙ ap (λ j. get_or s j 0) (add-zero at))
-
-  module _ {a b : ℕ} (e0 : a ≡ get_or s at 0) (e1 : b ≡ get_or s (at + 1) 0) where
-    pub two_is : a + b * 256 ≡ little_endian 2 (drop at s)
-    two_is = omega (arith, at_first e0, at_place 1 e1)
-
-    module _ {c d : ℕ} (e2 : c ≡ get_or s (at + 2) 0) (e3 : d ≡ get_or s (at + 3) 0) where
-      pub four_is : a + b * 256 + c * 65536 + d * 16777216 ≡ little_endian 4 (drop at s)
-      four_is = omega (arith, at_first e0, at_place 1 e1, at_place 2 e2, at_place 3 e3)
-
-      pub eight_is :
-          {e f g h : ℕ} → e ≡ get_or s (at + 4) 0 → f ≡ get_or s (at + 5) 0 → g ≡ get_or s (at + 6) 0 → h ≡ get_or s (at + 7) 0
-          → a + b * 256 + c * 65536 + d * 16777216 + e * 4294967296 + f * 1099511627776 + g * 281474976710656 + h * 72057594037927936
-          ≡ little_endian 8 (drop at s)
-      eight_is e4 e5 e6 e7 =
-          omega (arith, at_first e0, at_place 1 e1, at_place 2 e2, at_place 3 e3, at_place 4 e4, at_place 5 e5, at_place 6 e6, at_place 7 e7)
+pub begins_each : (s word : List ℕ) → starts_with_by eqb s word ≡ starts_with word s
+unfolding starts_with
+begins_each s [] = refl
+begins_each [] (y ∷ word) = refl
+begins_each (x ∷ s) (y ∷ word) = λ i. turned x y i && begins_each s word i
 
 module _ {width place size : ℕ} (rowed : Rowed width place size) (asked : ℕ) (s : List ℕ) where
   -- one row, and those behind it; or none

@@ -87,17 +87,6 @@ module _ {k : ℕ} {s : List ℕ} {v i : ℕ} (so_far : ReadSoFar k s v i) where
   unfolding numeral
   read_end h = rw (drop_of_length-le s h) at so_far.left
 
--- two and four bytes, each read at its place
-module _ {t u : List ℕ} {a b : ℕ} (at : t ≡ u) (first : a ≡ get_or t 0 0) (second : b ≡ get_or t 1 0) where
-  pub two_bytes : a + 256 * b ≡ little_endian 2 u
-  two_bytes = rw (first, second, at) (omega (arith, get_or-drop 1 u 0 0))
-
-  pub four_bytes : {c d : ℕ} → c ≡ get_or t 2 0 → d ≡ get_or t 3 0 → a + 256 * (b + 256 * (c + 256 * d)) ≡ little_endian 4 u
-  four_bytes third fourth =
-      rw (first, second, third, fourth, at)
-      (omega
-      (arith, get_or-drop 1 u 0 0, get_or-drop 1 (drop 1 u) 0 0 ∙ get_or-drop 1 u 1 0, get_or-drop 1 (drop 1 (drop 1 u)) 0 0 ∙ get_or-drop 1 (drop 1 u) 1 0 ∙ get_or-drop 1 u 2 0))
-
 -- one row of at most 18 digits, and two that are together no longer
 pub number_long : (s : List ℕ) → 18 < length s → 0 ≡ number_of s
 unfolding number_of

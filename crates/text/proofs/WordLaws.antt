@@ -8,6 +8,7 @@ use borrow.Author.Tests.{eq-eqb, ne_eqb}
 use lib.Dec.{eqb, eqb-suc-zero, eqb-suc-suc}
 use lib.ListN.{length, get_or, take, drop, drop_of_length-le}
 use lib.Seq.{drop-drop, take_all, take-nil}
+use Rattle.std.specs.List.{list_all, zip}
 use Rattle.text.specs.Word.{starts_with, same, among, one_of}
 use Rattle.text.specs.Shape.{suits, shape}
 use Rattle.text.proofs.Lists.{rest_at}
@@ -81,15 +82,7 @@ same_is (y ∷ word) (x ∷ s) = go (eqb x y) (same_is word s)
     go true e = rw (eqb-suc-suc (length s) (length word)) e
     go false e = and-false (eqb (suc (length s)) (suc (length word)))
 
--- the bytes before place i suit the pattern
-pub record ShapedSoFar (pattern s : List ℕ) (i : ℕ) : Type 0 where
-  pub within : i ≤ length pattern
-  pub length_is : length s ≡ length pattern
-  pub left : shape pattern s ≡ shape (drop i pattern) (drop i s)
-
-pub shaped_start : {pattern s : List ℕ} → length s ≡ length pattern → ShapedSoFar pattern s 0
-shaped_start h = record { within = omega arith; length_is = h; left = refl }
-
+-- a text of another length is of no shape
 pub other_length : (pattern s : List ℕ) → (length s ≡ length pattern → ⊥) → false ≡ shape pattern s
 unfolding shape
 other_length [] [] h = absurd (h refl)
@@ -101,24 +94,13 @@ other_length (y ∷ pattern) (x ∷ s) h = go (suits y x) (other_length pattern 
     go true e = e
     go false e = refl
 
-module _ {pattern s : List ℕ} {i : ℕ} (so_far : ShapedSoFar pattern s i) where
-  pub shaped_on : i < length pattern → suits (get_or pattern i 0) (get_or s i 0) ≡ true → ShapedSoFar pattern s (i + 1)
-  unfolding shape
-  shaped_on h e =
-      let k : i < length s = omega arith in
-      record { within = omega arith; length_is = so_far.length_is; left = so_far.left ∙ rw (rest_at 0 pattern i h, rest_at 0 s i k, e) }
-
-  pub shaped_off : i < length pattern → suits (get_or pattern i 0) (get_or s i 0) ≡ false → false ≡ shape pattern s
-  unfolding shape
-  shaped_off h e =
-      let k : i < length s = omega arith in
-      sym (so_far.left ∙ rw (rest_at 0 pattern i h, rest_at 0 s i k, e))
-
-  pub shaped_end : length pattern ≤ i → true ≡ shape pattern s
-  unfolding shape
-  shaped_end h =
-      let k : length s ≤ i = omega arith in
-      sym (so_far.left ∙ rw (drop_of_length-le pattern h, drop_of_length-le s k))
+-- a shape asks each byte beside its letter
+pub shape_each : (s pattern : List ℕ) → length s ≡ length pattern → list_all (λ (p : ℕ × ℕ). suits p.1 p.0) (zip s pattern) ≡ shape pattern s
+unfolding shape
+shape_each [] [] h = refl
+shape_each [] (y ∷ pattern) h = absurd (omega arith)
+shape_each (x ∷ s) [] h = absurd (omega arith)
+shape_each (x ∷ s) (y ∷ pattern) h = ap (λ (t : Bool). suits y x && t) (shape_each s pattern (omega arith))
 
 -- passing bytes is going on behind them
 among_skip : (s : List ℕ) (skip : ℕ) (words : List ℕ) → among s skip words ≡ among s 0 (drop skip words)

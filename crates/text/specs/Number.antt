@@ -1,5 +1,6 @@
 -- Numbers in decimal digits, and in bytes, least first.
-use Rattle.std.specs.Prelude.{ℕ, zero, suc, ◌+◌, ◌*◌, ◌-◌, cond, List, [], ◌∷◌, leb, length, get_or, drop}
+use Rattle.std.specs.Prelude.{ℕ, zero, suc, ◌+◌, ◌*◌, ◌-◌, cond, List, [], ◌∷◌, leb, length, get_or, drop, map}
+use Rattle.std.specs.List.{range_with_len}
 use Rattle.text.specs.declared.classes.Class.TheVariants.{Digit}
 use Rattle.text.specs.Class.{in_class}
 
@@ -30,6 +31,10 @@ four_digits s = two_digits s * 100 + two_digits (drop 2 s)
 
 unfoldable pub eight_digits : List ℕ → ℕ
 eight_digits s = four_digits s * 10000 + four_digits (drop 4 s)
+
+-- the first n bytes; one that is missing is 0
+abbrev pub first_bytes : ℕ → List ℕ → List ℕ
+first_bytes n s = map (λ i. get_or s i 0) (range_with_len 0 n)
 
 -- the number that the first n bytes write, least first; a byte that is missing is 0
 abbrev pub little_endian : ℕ → List ℕ → ℕ

@@ -25,30 +25,20 @@ pub enum Class {
     CapitalDigitSign,
 }
 
-fn is_digit(b: u8) -> bool
-    ensures { result ≡ in_class Class.Digit b }
-{
-    (b'0' <= b) & (b <= b'9')
-}
-
-fn is_capital(b: u8) -> bool
-    ensures { result ≡ in_class Class.Capital b }
-{
-    (b'A' <= b) & (b <= b'Z')
-}
-
 pub fn is_in(b: u8, class: Class) -> bool
     ensures { result ≡ in_class class b }
 {
     match class {
-        Class::Digit => is_digit(b),
-        Class::Capital => is_capital(b),
-        Class::CapitalDigit => is_capital(b) | is_digit(b),
-        Class::Alphanumeric => is_capital(b) | is_digit(b) | ((b'a' <= b) & (b <= b'z')),
-        Class::Printable => (b' ' <= b) & (b <= b'~'),
-        Class::CapitalHash => is_capital(b) | (b == b'#'),
-        Class::CapitalDigitMinus => is_capital(b) | is_digit(b) | (b == b'-'),
-        Class::CapitalDigitSign => is_capital(b) | is_digit(b) | (b == b'-') | (b == b'+'),
+        Class::Digit => b.is_ascii_digit(),
+        Class::Capital => b.is_ascii_uppercase(),
+        Class::CapitalDigit => b.is_ascii_uppercase() | b.is_ascii_digit(),
+        Class::Alphanumeric => b.is_ascii_alphanumeric(),
+        Class::Printable => matches!(b, b' '..=b'~'),
+        Class::CapitalHash => b.is_ascii_uppercase() | (b == b'#'),
+        Class::CapitalDigitMinus => b.is_ascii_uppercase() | b.is_ascii_digit() | (b == b'-'),
+        Class::CapitalDigitSign => {
+            b.is_ascii_uppercase() | b.is_ascii_digit() | (b == b'-') | (b == b'+')
+        }
     }
 }
 
@@ -57,10 +47,8 @@ pub fn all_of(s: &[u8], class: Class) -> bool
     ensures { result ≡ all_of class s.now }
 {
     let mut good = true;
-    let mut i = 0;
-    while i < s.len() {
-        good = good & is_in(s[i], class);
-        i += 1;
+    for &b in s {
+        good = good & is_in(b, class);
     }
     good
 }

@@ -1,80 +1,38 @@
 // Several bytes read at once, as one number, and rows that are looked through by such a number.
-ghost use Rattle.std.specs.Prelude.{◌≡◌, ◌+◌, ◌*◌, ◌≤◌, ◌<◌, length, drop, get_or};
-ghost use Rattle.text.specs.Number.{little_endian};
+ghost use Rattle.std.specs.Prelude.{◌≡◌, ◌+◌, ◌*◌, ◌≤◌, ◌<◌, length, drop};
+ghost use Rattle.text.specs.Number.{first_bytes, little_endian};
 ghost use Rattle.text.specs.Word.{starts_with};
 ghost use Rattle.text.specs.Stride.{Sized, Rowed, some_of_four, next_row, PassedTo};
 
-use crate::parts::rest;
-use crate::words::starts_with;
-
-fn byte(s: &[u8], i: usize) -> u8
-    requires { i < length s.now }
-    ensures { result ≡ get_or s.now i 0 }
+// The N bytes from a place on: a copy of so few is one load.
+fn bytes_at<const N: usize>(s: &[u8], at: usize) -> [u8; N]
+    requires { at + N ≤ length s.now }
+    ensures { result ≡ first_bytes N (drop at s.now) }
 {
-    s[i]
-}
-
-// Each byte by its own weight: sums of this form become one load.
-fn two_bytes(s: &[u8], at: usize) -> u64
-    requires { at + 2 ≤ length s.now }
-    ensures { result ≡ little_endian 2 (drop at s.now) }
-{
-    byte(s, at) as u64 + byte(s, at + 1) as u64 * 256
-}
-
-fn four_bytes(s: &[u8], at: usize) -> u64
-    requires { at + 4 ≤ length s.now }
-    ensures { result ≡ little_endian 4 (drop at s.now) }
-{
-    byte(s, at) as u64
-        + byte(s, at + 1) as u64 * 256
-        + byte(s, at + 2) as u64 * 65536
-        + byte(s, at + 3) as u64 * 16777216
-}
-
-fn eight_bytes(s: &[u8], at: usize) -> u64
-    requires { at + 8 ≤ length s.now }
-    ensures { result ≡ little_endian 8 (drop at s.now) }
-{
-    byte(s, at) as u64
-        + byte(s, at + 1) as u64 * 256
-        + byte(s, at + 2) as u64 * 65536
-        + byte(s, at + 3) as u64 * 16777216
-        + byte(s, at + 4) as u64 * 4294967296
-        + byte(s, at + 5) as u64 * 1099511627776
-        + byte(s, at + 6) as u64 * 281474976710656
-        + byte(s, at + 7) as u64 * 72057594037927936
+    let mut bytes = [0; N];
+    bytes.copy_from_slice(&s[at..at + N]);
+    bytes
 }
 
 // The number that 2, 4 or 8 bytes write.
+#[tactic(auto, using(crate::proofs::ByteLaws::two_read, crate::proofs::ByteLaws::four_read, crate::proofs::ByteLaws::eight_read))]
 pub fn word(s: &[u8], at: usize, size: usize) -> u64
     requires { Sized size × (at + size ≤ length s.now) }
     ensures { result ≡ little_endian size (drop at s.now) }
 {
-    if size == 8 {
-        return eight_bytes(s, at);
+    match size {
+        8 => u64::from_le_bytes(bytes_at(s, at)),
+        4 => u64::from(u32::from_le_bytes(bytes_at(s, at))),
+        _ => u64::from(u16::from_le_bytes(bytes_at(s, at))),
     }
-    if size == 4 {
-        return four_bytes(s, at);
-    }
-    two_bytes(s, at)
 }
 
-// As `starts_with`, eight bytes at a time: for a word that is long and mostly there.
+// As `starts_with`, many bytes at a time: for a word that is long and mostly there.
+#[tactic(auto, using(crate::proofs::LoadLaws::begins_each))]
 pub fn begins_with(s: &[u8], word: &[u8]) -> bool
     ensures { result ≡ starts_with word.now s.now }
 {
-    if s.len() < word.len() {
-        return false;
-    }
-    let mut i = 0;
-    while i + 8 <= word.len() {
-        if eight_bytes(s, i) != eight_bytes(word, i) {
-            return false;
-        }
-        i += 8;
-    }
-    starts_with(rest(s, i), rest(word, i))
+    s.starts_with(word)
 }
 
 // One of the four rows from a place on has the word.

@@ -1,16 +1,18 @@
 // Numbers written in decimal digits, and numbers of two and four bytes, least byte first.
-ghost use Rattle.std.specs.Prelude.{◌≡◌, ◌++◌, ◌<◌, ◌≤◌, ◌^◌, ◌-◌, length, drop};
-ghost use Rattle.text.specs.Number.{digit_of, numeral, number_of, two_digits, four_digits, eight_digits, little_endian};
+ghost use Rattle.std.specs.Prelude.{◌≡◌, ◌++◌, ◌+◌, ◌<◌, ◌≤◌, ◌^◌, ◌-◌, length, drop};
+ghost use Rattle.text.specs.Number.{digit_of, numeral, number_of, two_digits, four_digits, eight_digits, first_bytes, little_endian};
 
 use crate::classes::{Class, is_in};
 use crate::parts::{byte_at, rest};
+use std::array;
 
 // What a byte counts as a digit: 0 where it is none.
+#[tactic(auto, using(crate::proofs::NumberLaws::digit_yes), unfolding(crate::specs::Number::digit_of))]
 pub fn digit_of(b: u8) -> u32
     ensures { result ≡ digit_of b }
 {
     if is_in(b, Class::Digit) {
-        return (b - b'0') as u32;
+        return u32::from(b - b'0');
     }
     0
 }
@@ -21,10 +23,8 @@ fn written_on(k: u64, s: &[u8]) -> u64
     ensures { result ≡ numeral k s.now }
 {
     let mut v = k;
-    let mut i = 0;
-    while i < s.len() {
-        v = v * 10 + digit_of(s[i]) as u64;
-        i += 1;
+    for &b in s {
+        v = v * 10 + u64::from(digit_of(b));
     }
     v
 }
@@ -68,18 +68,24 @@ pub fn eight_digits(s: &[u8]) -> u32
     four_digits(s) * 10000 + four_digits(rest(s, 4))
 }
 
-// The two bytes from a place on, and the four, as one number.
+// The N bytes from a place on, 0 where one is missing.
+fn bytes_from<const N: usize>(s: &[u8], at: usize) -> [u8; N]
+    ensures { result ≡ first_bytes N (drop at s.now) }
+{
+    let t = rest(s, at);
+    array::from_fn(|i| byte_at(t, i))
+}
+
+#[tactic(auto, using(crate::proofs::ByteLaws::two_read))]
 pub fn le16(s: &[u8], at: usize) -> u16
     ensures { result ≡ little_endian 2 (drop at s.now) }
 {
-    let t = rest(s, at);
-    byte_at(t, 0) as u16 + 256 * byte_at(t, 1) as u16
+    u16::from_le_bytes(bytes_from(s, at))
 }
 
+#[tactic(auto, using(crate::proofs::ByteLaws::four_read))]
 pub fn le32(s: &[u8], at: usize) -> u32
     ensures { result ≡ little_endian 4 (drop at s.now) }
 {
-    let t = rest(s, at);
-    byte_at(t, 0) as u32
-        + 256 * (byte_at(t, 1) as u32 + 256 * (byte_at(t, 2) as u32 + 256 * byte_at(t, 3) as u32))
+    u32::from_le_bytes(bytes_from(s, at))
 }

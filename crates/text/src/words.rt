@@ -14,16 +14,8 @@ pub fn starts_with(s: &[u8], word: &[u8]) -> bool
     if s.len() < word.len() {
         return false;
     }
-    if word.len() == 0 {
-        return true;
-    }
-    let mut left = word.len() - 1;
-    if s[left] != word[left] {
-        return false;
-    }
-    while left > 0 {
-        left -= 1;
-        if s[left] != word[left] {
+    for i in (0..word.len()).rev() {
+        if s[i] != word[i] {
             return false;
         }
     }
@@ -55,37 +47,29 @@ pub fn one_of(s: &[u8], words: &[u8], width: usize) -> bool
 
 // A letter of a pattern: d a digit, u or * a capital, n a capital or digit, h a capital or #. Another byte that is
 // no small letter stands for itself.
+#[tactic(auto, unfolding(crate::specs::Shape::suits))]
 fn fits_letter(b: u8, letter: u8) -> bool
     ensures { result ≡ suits letter b }
 {
-    if letter == b'd' {
-        return is_in(b, Class::Digit);
+    match letter {
+        b'd' => is_in(b, Class::Digit),
+        b'u' | b'*' => is_in(b, Class::Capital),
+        b'n' => is_in(b, Class::CapitalDigit),
+        b'h' => is_in(b, Class::CapitalHash),
+        b'a'..=b'z' => false,
+        _ => b == letter,
     }
-    if (letter == b'u') | (letter == b'*') {
-        return is_in(b, Class::Capital);
-    }
-    if letter == b'n' {
-        return is_in(b, Class::CapitalDigit);
-    }
-    if letter == b'h' {
-        return is_in(b, Class::CapitalHash);
-    }
-    !((b'a' <= letter) & (letter <= b'z')) & (b == letter)
 }
 
 // As long as the pattern, each byte suiting its letter.
+#[tactic(auto, using(crate::proofs::WordLaws::shape_each, crate::proofs::WordLaws::other_length))]
 pub fn shaped(s: &[u8], pattern: &[u8]) -> bool
     ensures { result ≡ shape pattern.now s.now }
 {
     if s.len() != pattern.len() {
         return false;
     }
-    let mut i = 0;
-    while i < pattern.len() {
-        if !fits_letter(s[i], pattern[i]) {
-            return false;
-        }
-        i += 1;
-    }
-    true
+    s.iter()
+        .zip(pattern)
+        .all(|(b, letter)| fits_letter(*b, *letter))
 }
