@@ -1,13 +1,13 @@
 -- Words and shapes, from a place on.
 use mathlib.Core.Path.{◌≡◌, ◌∙◌, sym, refl, ap}
-use mathlib.Core.Bool.{Bool, true, false, ◌&&◌, and-true, and-false, and_assoc, true≢false}
-use mathlib.Core.List.{List, [], ◌∷◌}
-use Prim.Native.Nat.{ℕ, zero, suc, ◌+◌, ◌-◌, ◌≤◌, ◌<◌}
+use mathlib.Core.Bool.{Bool, true, false, ◌&&◌, ◌||◌, and-true, and-false, and_assoc, true≢false}
+use mathlib.Core.List.{List, [], ◌∷◌, ◌++◌}
+use Prim.Native.Nat.{ℕ, zero, suc, max, ◌+◌, ◌-◌, ◌≤◌, ◌<◌}
 use native.Mathlib.Omega.{arith}
 use borrow.Author.Tests.{eq-eqb, ne_eqb}
 use lib.Dec.{eqb, eqb-suc-zero, eqb-suc-suc}
 use lib.ListN.{length, get_or, take, drop, drop_of_length-le}
-use lib.Seq.{drop-drop, take_all, take-nil}
+use lib.Seq.{drop-append_seam, take_all, take-nil}
 use Rattle.std.specs.List.{list_all, zip}
 use Rattle.text.specs.Word.{starts_with, same, among, one_of}
 use Rattle.text.specs.Shape.{suits, shape}
@@ -109,45 +109,33 @@ among_skip s zero words = refl
 among_skip s (suc skip) [] = refl
 among_skip s (suc skip) (b ∷ words) = among_skip s skip words
 
--- a text without bytes begins every word
-pub nonempty : (s t : List ℕ) → starts_with s t ≡ false → 0 < length s
-unfolding starts_with
-nonempty [] t e = absurd (true≢false e)
-nonempty (x ∷ s) t e = omega arith
-
 pub other_width : (width : ℕ) (words s : List ℕ) → (length s ≡ width → ⊥) → false ≡ one_of width words s
 unfolding one_of
 other_width width words s h = rw (ne_eqb _ _ h)
 
--- the words before place `at` are others
-pub record NotSoFar (width : ℕ) (words s : List ℕ) (at : ℕ) : Type 0 where
-  pub wide : length s ≡ width
-  pub left : one_of width words s ≡ among s 0 (drop at words)
-
-pub not_start : {width : ℕ} {words s : List ℕ} → length s ≡ width → NotSoFar width words s 0
+pub of_width : {width : ℕ} (words s : List ℕ) → length s ≡ width → one_of width words s ≡ among s 0 words
 unfolding one_of
-not_start h = record { wide = h; left = rw (eq-eqb _ _ h) }
+of_width words s h = rw (eq-eqb _ _ h)
 
-module _ {width : ℕ} {words s : List ℕ} {at : ℕ} (so_far : NotSoFar width words s at) where
-  pub among_yes : at < length words → starts_with s (drop at words) ≡ true → true ≡ one_of width words s
-  unfolding among
-  among_yes h e =
-      let on : starts_with s (get_or words at 0 ∷ drop (at + 1) words) ≡ true = rw (rest_at 0 words at h) at e in
-      sym (so_far.left ∙ rw (rest_at 0 words at h, on))
+begins_before : (s x t : List ℕ) → length s ≤ length x → starts_with s (x ++ t) ≡ starts_with s x
+unfolding starts_with
+begins_before [] x t h = refl
+begins_before (y ∷ s) [] t h = absurd (omega arith)
+begins_before (y ∷ s) (b ∷ x) t h = ap (λ (r : Bool). eqb b y && r) (begins_before s x t (omega arith))
 
-  pub among_on : at < length words → starts_with s (drop at words) ≡ false → NotSoFar width words s (at + width)
-  unfolding among
-  among_on h e =
-      let n : 0 < length s = nonempty s (drop at words) e in
-      let k : at + 1 + (length s - 1) ≡ at + width = omega arith in
-      let off : starts_with s (get_or words at 0 ∷ drop (at + 1) words) ≡ false = rw (rest_at 0 words at h) at e in
-      record {
-        wide = so_far.wide;
-        left =
-            so_far.left
-            ∙ rw (rest_at 0 words at h, off) (among_skip s (length s - 1) (drop (at + 1) words) ∙ rw (drop-drop (length s - 1) (at + 1) words, k));
-      }
+-- the first of the words, and those behind it; a text without bytes begins every word
+pub among_word : (s x t : List ℕ) → length x ≡ max (length s) 1 → among s 0 (x ++ t) ≡ (starts_with s x || among s 0 t)
+unfolding among starts_with
+among_word s [] t h = absurd (omega arith)
+among_word [] (b ∷ x) t h = refl
+among_word (y ∷ s) (b ∷ x) t h =
+    let n : suc (length s) - 1 ≡ length x = omega arith in
+    let behind : among (y ∷ s) (length x) (x ++ t) ≡ among (y ∷ s) 0 t = among_skip (y ∷ s) (length x) (x ++ t) ∙ ap (among (y ∷ s) 0) (drop-append_seam x t) in
+    rw n (λ i. begins_before (y ∷ s) (b ∷ x) t (omega arith) i || behind i)
 
-  pub among_none : length words ≤ at → false ≡ one_of width words s
-  unfolding among
-  among_none h = sym (so_far.left ∙ rw (drop_of_length-le words h))
+-- too few bytes for a word
+pub among_short : (s t : List ℕ) → length t < max (length s) 1 → among s 0 t ≡ false
+unfolding among
+among_short s [] h = refl
+among_short s (b ∷ t) h =
+    rw (← too_short s (b ∷ t) (omega arith)) (among_skip s (length s - 1) t ∙ (let k : length t ≤ length s - 1 = omega arith in rw (drop_of_length-le t k)))

@@ -4,7 +4,6 @@ ghost use Rattle.text.specs.Word.{same, starts_with, one_of};
 ghost use Rattle.text.specs.Shape.{suits, shape};
 
 use crate::classes::{Class, is_in};
-use crate::parts::rest;
 
 // Compared from the word's end, since words and identifiers that differ mostly begin alike. Its last byte is compared by itself: that is
 // mostly all that another word costs.
@@ -35,12 +34,10 @@ pub fn one_of(s: &[u8], words: &[u8], width: usize) -> bool
     if s.len() != width {
         return false;
     }
-    let mut at = 0;
-    while at < words.len() {
-        if starts_with(rest(words, at), s) {
+    for word in words.chunks_exact(width.max(1)) {
+        if starts_with(word, s) {
             return true;
         }
-        at += width;
     }
     false
 }
