@@ -47,9 +47,6 @@ pub record Bytes (s : List ℕ) : Type 0 where
 bytes_behind : {x : ℕ} {s : List ℕ} → Bytes (x ∷ s) → Bytes s
 bytes_behind b = record { small = λ i. b.small (suc i) }
 
-bytes_from : {s : List ℕ} (at : ℕ) → Bytes s → Bytes (drop at s)
-bytes_from {s} at b = record { small = λ i. rw (get_or-drop at s i 0) (b.small (at + i)) }
-
 word_passed : (n : ℕ) (word s : List ℕ) → Bytes word → Bytes s → n ≤ length word → n ≤ length s → little_endian n s ≡ little_endian n word
     → starts_with word s ≡ starts_with (drop n word) (drop n s)
 unfolding starts_with

@@ -48,7 +48,7 @@ pub fn all_of(s: &[u8], class: Class) -> bool
 {
     let mut good = true;
     for &b in s {
-        good = good & is_in(b, class);
+        good &= is_in(b, class);
     }
     good
 }

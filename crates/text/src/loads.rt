@@ -47,6 +47,8 @@ fn in_four(s: &[u8], at: usize, width: usize, place: usize, size: usize, asked: 
 }
 
 // Rows with another word are passed four a turn: the place of four of which one has it, or of the last few.
+// The place goes on by hand, here and in `next_row`, since where a loop stops is the answer, which a `for` does not hold. Over 32 rows of 30
+// bytes a search takes 130 instructions so, 149 with a `for` over the rows' numbers, and a quarter more by `chunks_exact` and `position`.
 fn past_fours(s: &[u8], from: usize, width: usize, place: usize, size: usize, asked: u64) -> usize
     requires { Rowed width place size × (from ≤ length s.now) }
     ensures { PassedTo width place size asked s.now from result }

@@ -50,18 +50,21 @@ pub fn joined_number(s: &[u8], t: &[u8]) -> u64
 }
 
 // The first two, four and eight digits, as dates and times have them.
+#[tactic(auto, using(crate::proofs::NumberLaws::digit_small), unfolding(crate::specs::Number::two_digits))]
 pub fn two_digits(s: &[u8]) -> u32
     ensures { result ≡ two_digits s.now }
 {
     digit_of(byte_at(s, 0)) * 10 + digit_of(byte_at(s, 1))
 }
 
+#[tactic(auto, using(crate::proofs::NumberLaws::two_small), unfolding(crate::specs::Number::four_digits))]
 pub fn four_digits(s: &[u8]) -> u32
     ensures { result ≡ four_digits s.now }
 {
     two_digits(s) * 100 + two_digits(rest(s, 2))
 }
 
+#[tactic(auto, using(crate::proofs::NumberLaws::four_small), unfolding(crate::specs::Number::eight_digits))]
 pub fn eight_digits(s: &[u8]) -> u32
     ensures { result ≡ eight_digits s.now }
 {

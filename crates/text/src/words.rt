@@ -5,8 +5,8 @@ ghost use Rattle.text.specs.Shape.{suits, shape};
 
 use crate::classes::{Class, is_in};
 
-// Compared from the word's end, since words and identifiers that differ mostly begin alike. Its last byte is compared by itself: that is
-// mostly all that another word costs.
+// Compared from the word's end, since words and identifiers that differ mostly begin alike: its last byte is mostly all that another word
+// costs.
 pub fn starts_with(s: &[u8], word: &[u8]) -> bool
     ensures { result ≡ starts_with word.now s.now }
 {
@@ -21,13 +21,14 @@ pub fn starts_with(s: &[u8], word: &[u8]) -> bool
     true
 }
 
+#[tactic(auto, using(crate::proofs::WordLaws::same_is))]
 pub fn same(s: &[u8], word: &[u8]) -> bool
     ensures { result ≡ same word.now s.now }
 {
     (s.len() == word.len()) & starts_with(s, word)
 }
 
-// One of the words of `width` bytes that stand one after the other in `words`.
+// One of the words of `width` bytes that stand one after the other in `words`. No bytes at all are in every byte of them.
 pub fn one_of(s: &[u8], words: &[u8], width: usize) -> bool
     ensures { result ≡ one_of width words.now s.now }
 {

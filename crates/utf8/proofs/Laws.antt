@@ -14,7 +14,7 @@ use Rattle.text.specs.declared.classes.Class.TheVariants.{Printable}
 use Rattle.text.specs.Class.{in_class, all_of}
 use Rattle.utf8.specs.declared.Next.{Next}
 use Rattle.utf8.specs.declared.Next.TheVariants.{First, Tail, Never}
-use Rattle.utf8.specs.declared.Points.TheVariants.{Count}
+use Rattle.std.proofs.Common.{Some}
 use Rattle.utf8.specs.Abnf.{Row, upto, look, rows, within, awaited, after, starts, ended, counted, points, points_within}
 
 pub inside : (least most b : ℕ) → least ≤ b → b ≤ most → within least most b ≡ true
@@ -74,17 +74,17 @@ module _ {s : List ℕ} {next : Next} {n i : ℕ} (c : ReadSoFar s next n i) whe
   read_end h = rw (drop_of_length-le s h) at c.rest
 
 -- each byte of printable ASCII is a code point
-plain_counted : (s : List ℕ) (n : ℕ) → all_of Printable s ≡ true → counted First n s ≡ Count (n + length s)
+plain_counted : (s : List ℕ) (n : ℕ) → all_of Printable s ≡ true → counted First n s ≡ Some (n + length s)
 unfolding counted all_of
-plain_counted [] n e = ap Count (let p : n ≡ n + 0 = omega arith in p)
+plain_counted [] n e = ap Some (let p : n ≡ n + 0 = omega arith in p)
 plain_counted (b ∷ s) n e =
     let p = and_left (in_class Printable b) (all_of Printable s) e in
     rw (← hits 1 rows 0x20 b refl (leb-true 0x20 b (and_left _ (leb b 0x7E) p)) (leb-true b 0x7E (and_right (leb 0x20 b) _ p)))
-    (plain_counted s (n + 1) (and_right (in_class Printable b) _ e) ∙ ap Count (let q : n + 1 + length s ≡ n + suc (length s) = omega arith in q))
+    (plain_counted s (n + 1) (and_right (in_class Printable b) _ e) ∙ ap Some (let q : n + 1 + length s ≡ n + suc (length s) = omega arith in q))
 
-pub plain_points : (s : List ℕ) → all_of Printable s ≡ true → points s ≡ Count (length s)
+pub plain_points : (s : List ℕ) → all_of Printable s ≡ true → points s ≡ Some (length s)
 unfolding points
-plain_points s e = plain_counted s 0 e ∙ ap Count (let p : 0 + length s ≡ length s = omega arith in p)
+plain_points s e = plain_counted s 0 e ∙ ap Some (let p : 0 + length s ≡ length s = omega arith in p)
 
 pub plain_within : (most : ℕ) (s : List ℕ) → all_of Printable s ≡ true → (leb 1 (length s) && leb (length s) most) ≡ points_within most s
 unfolding points_within

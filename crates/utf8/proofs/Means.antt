@@ -11,8 +11,7 @@ use borrow.Author.Tests.{le-leb, lt-leb, leb-true, leb-false}
 use Rattle.text.proofs.Bools.{and_left, and_right, by_test}
 use Rattle.utf8.specs.declared.Next.{Next}
 use Rattle.utf8.specs.declared.Next.TheVariants.{First, Tail, Never}
-use Rattle.utf8.specs.declared.Points.{Points}
-use Rattle.utf8.specs.declared.Points.TheVariants.{Count, Malformed}
+use Rattle.std.proofs.Common.{Option, Some, None}
 use Rattle.utf8.specs.Abnf.{Row, upto, look, rows, first, within, awaited, after, counted, points, count_within, points_within}
 use Rattle.utf8.specs.Rfc3629.{encode, Allowed, AllAllowed, text, TextOf, Meaning}
 use Rattle.utf8.proofs.Laws.{inside, below, reach, following, hits}
@@ -158,7 +157,7 @@ module _ {n m : ℕ} {b : ℕ} where
       (λ h g r. four s r (omega arith))
       (λ h g r. absurd r)
 
-sound : (s : List ℕ) (next : Next) (n m : ℕ) → counted next n s ≡ Count m → Read n m next s
+sound : (s : List ℕ) (next : Next) (n m : ℕ) → counted next n s ≡ Some m → Read n m next s
 unfolding counted
 sound [] First n m e = record { codes = []; many = let p : n ≡ m = cc in omega arith; allowed = tt; bytes = refl }
 sound [] (Tail least most more) n m e = let z : ◌≡◌ {A = ℕ} 0 1 = cc in absurd (omega arith)
@@ -171,7 +170,7 @@ sound (b ∷ s) (Tail least most more) n m e = tailed (within least most b) refl
     tailed false p r = absurd r
 sound (b ∷ s) Never n m e = sound s Never (n + 0) m e
 
-pub points_sound : (s : List ℕ) (n : ℕ) → points s ≡ Count n → TextOf n s
+pub points_sound : (s : List ℕ) (n : ℕ) → points s ≡ Some n → TextOf n s
 unfolding points
 points_sound s n e =
     let f = sound s First 0 n e in
@@ -220,26 +219,26 @@ module _ (n : ℕ) where
         (λ f. let t : Four c (0xF0 + c / 0x40000) (0x80 + c / 0x1000 % 0x40) (0x80 + c / 0x40 % 0x40) (0x80 + c % 0x40) = omega (arith, a.last) in
         (λ i. counted First n (four_bytes t i ++ s)) ∙ point4 t ∙ step (n + 1) 1 (_ ∷ s) (omega arith) ∙ step (n + 1) 0 s (omega arith))))
 
-complete : (cs : List ℕ) (n : ℕ) → AllAllowed cs → counted First n (text cs) ≡ Count (n + length cs)
+complete : (cs : List ℕ) (n : ℕ) → AllAllowed cs → counted First n (text cs) ≡ Some (n + length cs)
 unfolding counted
-complete [] n a = ap Count (let p : n ≡ n + 0 = omega arith in p)
+complete [] n a = ap Some (let p : n ≡ n + 0 = omega arith in p)
 complete (c ∷ cs) n a =
     point n (text cs) a.0 ∙ complete cs (n + 1) a.1
-    ∙ ap Count (let p : n + 1 + length cs ≡ n + suc (length cs) = omega arith in p)
+    ∙ ap Some (let p : n + 1 + length cs ≡ n + suc (length cs) = omega arith in p)
 
-pub points_complete : (s : List ℕ) (n : ℕ) → TextOf n s → points s ≡ Count n
+pub points_complete : (s : List ℕ) (n : ℕ) → TextOf n s → points s ≡ Some n
 unfolding points
 points_complete s n t =
     (λ i. counted First 0 (sym t.bytes i)) ∙ complete t.codes 0 t.allowed
-    ∙ ap Count (let p : 0 + length t.codes ≡ n = omega (arith, t.many) in p)
+    ∙ ap Some (let p : 0 + length t.codes ≡ n = omega (arith, t.many) in p)
 
 within_sound : (most : ℕ) (s : List ℕ) → points_within most s ≡ true → (n : ℕ) × (1 ≤ n) × (n ≤ most) × TextOf n s
 unfolding points_within
 within_sound most s e = go (points s) refl e
   where
-    go : (p : Points) → points s ≡ p → count_within most p ≡ true → (n : ℕ) × (1 ≤ n) × (n ≤ most) × TextOf n s
-    go (Count n) q e = (n, leb-true 1 n (and_left _ (leb n most) e), leb-true n most (and_right (leb 1 n) _ e), points_sound s n q)
-    go Malformed q e = let z : ◌≡◌ {A = ℕ} 0 1 = cc in absurd (omega arith)
+    go : (p : Option ℕ) → points s ≡ p → count_within most p ≡ true → (n : ℕ) × (1 ≤ n) × (n ≤ most) × TextOf n s
+    go (Some n) q e = (n, leb-true 1 n (and_left _ (leb n most) e), leb-true n most (and_right (leb 1 n) _ e), points_sound s n q)
+    go None q e = let z : ◌≡◌ {A = ℕ} 0 1 = cc in absurd (omega arith)
 
 within_complete : (most : ℕ) (s : List ℕ) → (n : ℕ) × (1 ≤ n) × (n ≤ most) × TextOf n s → points_within most s ≡ true
 unfolding points_within

@@ -1,10 +1,8 @@
 -- RFC 3629 section 4, the syntax of UTF-8 byte sequences, read from left to right. Of its UTF8-1 = %x00-7F only
 -- %x20-7E is allowed here.
-use Rattle.std.specs.Prelude.{ℕ, zero, suc, ◌+◌, Bool, false, cond, ◌&&◌, List, [], ◌∷◌, leb}
+use Rattle.std.specs.Prelude.{ℕ, zero, suc, ◌+◌, Bool, false, cond, ◌&&◌, List, [], ◌∷◌, Option, Some, None, leb}
 use Rattle.utf8.specs.declared.Next.{Next}
 use Rattle.utf8.specs.declared.Next.TheVariants.{First, Tail, Never}
-use Rattle.utf8.specs.declared.Points.{Points}
-use Rattle.utf8.specs.declared.Points.TheVariants.{Count, Malformed}
 
 -- a row: the first bytes up to this one, from where the row before ends, and what may come after them
 pub data Row : Type 0 where
@@ -58,23 +56,23 @@ starts (Tail least most more) = 0
 starts Never = 0
 
 -- where the bytes end
-abbrev pub ended : Next → ℕ → Points
-ended First n = Count n
-ended (Tail least most more) n = Malformed
-ended Never n = Malformed
+abbrev pub ended : Next → ℕ → Option ℕ
+ended First n = Some n
+ended (Tail least most more) n = None
+ended Never n = None
 
 -- the bytes s, where n code points are begun and `next` may come
-unfoldable pub counted : Next → ℕ → List ℕ → Points
+unfoldable pub counted : Next → ℕ → List ℕ → Option ℕ
 counted next n [] = ended next n
 counted next n (b ∷ s) = counted (after next b) (n + starts next) s
 
-unfoldable pub points : List ℕ → Points
+unfoldable pub points : List ℕ → Option ℕ
 points s = counted First 0 s
 
 -- from 1 to `most` code points
-abbrev pub count_within : ℕ → Points → Bool
-count_within most (Count n) = leb 1 n && leb n most
-count_within most Malformed = false
+abbrev pub count_within : ℕ → Option ℕ → Bool
+count_within most (Some n) = leb 1 n && leb n most
+count_within most None = false
 
 unfoldable pub points_within : ℕ → List ℕ → Bool
 points_within most s = count_within most (points s)

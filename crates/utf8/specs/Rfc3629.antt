@@ -1,6 +1,5 @@
 -- What a text in UTF-8 is, by RFC 3629 section 3: code points, each written in one to four bytes.
-use Rattle.std.specs.Prelude.{ℕ, ◌+◌, ◌/◌, ◌%◌, ◌≤◌, ◌≡◌, true, cond, List, [], ◌∷◌, ◌++◌, ◌↔◌, leb, length}
-use Rattle.utf8.specs.declared.Points.TheVariants.{Count}
+use Rattle.std.specs.Prelude.{ℕ, ◌+◌, ◌/◌, ◌%◌, ◌≤◌, ◌≡◌, true, cond, List, [], ◌∷◌, ◌++◌, ◌↔◌, Some, leb, length}
 use Rattle.utf8.specs.Abnf.{points, points_within}
 
 -- 10xxxxxx, with the six lowest bits
@@ -41,5 +40,5 @@ pub record TextOf (n : ℕ) (s : List ℕ) : Type 0 where
 -- What the answers mean: bytes are counted as n code points exactly if they are the text of n allowed ones. Proved as
 -- `meaning` in proofs/Means.antt.
 pub record Meaning : Type 0 where
-  pub count : (s : List ℕ) (n : ℕ) → (points s ≡ Count n) ↔ TextOf n s
+  pub count : (s : List ℕ) (n : ℕ) → (points s ≡ Some n) ↔ TextOf n s
   pub within : (most : ℕ) (s : List ℕ) → (points_within most s ≡ true) ↔ ((n : ℕ) × (1 ≤ n) × (n ≤ most) × TextOf n s)

@@ -5,7 +5,7 @@
 #![tactic(auto)]
 
 ghost use Rattle.std.specs.Prelude.{◌≡◌};
-ghost use Rattle.utf8.specs.Abnf.{first, awaited, after, starts, ended, points, count_within, points_within};
+ghost use Rattle.utf8.specs.Abnf.{first, awaited, after, starts, ended, points, points_within};
 
 use text::{Class, all_of};
 
@@ -16,13 +16,6 @@ enum Next {
     First,
     Tail(u8, u8, u8),
     Never,
-}
-
-// How many code points the bytes are, if all of them are well-formed and allowed.
-#[derive(Clone, Copy)]
-pub enum Points {
-    Count(usize),
-    Malformed,
 }
 
 // The lines of the syntax, by their first byte, without its controls. Where the second byte has a narrower range, the
@@ -48,10 +41,10 @@ fn first(b: u8) -> Next
 fn awaited(more: u8) -> Next
     ensures { result ≡ awaited more }
 {
-    if more == 0 {
-        return Next::First;
+    match more {
+        0 => Next::First,
+        _ => Next::Tail(0x80, 0xbf, more - 1),
     }
-    Next::Tail(0x80, 0xbf, more - 1)
 }
 
 fn after(next: Next, b: u8) -> Next
@@ -59,13 +52,8 @@ fn after(next: Next, b: u8) -> Next
 {
     match next {
         Next::First => first(b),
-        Next::Tail(least, most, more) => {
-            if (least <= b) & (b <= most) {
-                return awaited(more);
-            }
-            Next::Never
-        }
-        Next::Never => Next::Never,
+        Next::Tail(least, most, more) if least <= b && b <= most => awaited(more),
+        _ => Next::Never,
     }
 }
 
@@ -75,50 +63,39 @@ fn starts(next: Next) -> usize
 {
     match next {
         Next::First => 1,
-        Next::Tail(_, _, _) => 0,
-        Next::Never => 0,
+        _ => 0,
     }
 }
 
-fn ended(next: Next, n: usize) -> Points
+fn ended(next: Next, n: usize) -> Option<usize>
     ensures { result ≡ ended next n }
 {
     match next {
-        Next::First => Points::Count(n),
-        Next::Tail(_, _, _) => Points::Malformed,
-        Next::Never => Points::Malformed,
+        Next::First => Some(n),
+        _ => None,
     }
 }
 
-pub fn code_points(s: &[u8]) -> Points
+// How many code points the bytes are, if all of them are well-formed and allowed.
+pub fn code_points(s: &[u8]) -> Option<usize>
     ensures { result ≡ points s.now }
 {
     let mut next = Next::First;
     let mut n = 0;
-    let mut i = 0;
-    while i < s.len() {
+    for &b in s {
         n += starts(next);
-        next = after(next, s[i]);
-        i += 1;
+        next = after(next, b);
     }
     ended(next, n)
 }
 
-fn count_within(p: Points, most: usize) -> bool
-    ensures { result ≡ count_within most p }
-{
-    match p {
-        Points::Count(n) => (1 <= n) & (n <= most),
-        Points::Malformed => false,
-    }
-}
-
 // From 1 to `most` code points, all well-formed and allowed. Most names are of plain letters, and then each byte is a code point.
+#[tactic(auto, using(crate::proofs::Laws::plain_within), unfolding(crate::specs::Abnf::points_within))]
 pub fn points_within(s: &[u8], most: usize) -> bool
     ensures { result ≡ points_within most s.now }
 {
     if all_of(s, Class::Printable) {
         return (1 <= s.len()) & (s.len() <= most);
     }
-    count_within(code_points(s), most)
+    code_points(s).is_some_and(|n| (1 <= n) & (n <= most))
 }
