@@ -1,5 +1,5 @@
 -- Bytes that a function of the place makes, and the number that they write.
-use mathlib.Core.Path.{◌≡◌, ◌∙◌, refl, sym, ap}
+use mathlib.Core.Path.{◌≡◌, ◌∙◌, refl, ap}
 use mathlib.Core.Logic.{◌≢◌}
 use mathlib.Core.List.{List, map}
 use Prim.Native.Nat.{ℕ, zero, suc, ◌+◌, ◌≤◌, ◌<◌}
@@ -50,5 +50,6 @@ module _ (t : List ℕ) where
   pub eight_read : from_le_bytes w64 (first_bytes 8 t) ≡ little_endian 8 t
   eight_read = omega (arith, one_by_one 1 t, one_by_one 2 t, one_by_one 3 t, one_by_one 4 t, one_by_one 5 t, one_by_one 6 t, one_by_one 7 t)
 
+  -- bytes that are all there
   pub first_all : (n : ℕ) → n ≤ length t → take n t ≡ first_bytes n t
   first_all n h = fill_by_all (λ i. get_or t i 0) (take n t) n 0 (length-take-le n t h) (λ k l. get_or-take n t k 0 l)

@@ -1,13 +1,12 @@
 -- Bytes of a class, from a place on.
 use mathlib.Core.Path.{◌≡◌, ◌∙◌, sym, refl}
-use mathlib.Core.Bool.{Bool, true, false, ◌&&◌, and-true, and_assoc}
+use mathlib.Core.Bool.{Bool, true, ◌&&◌, and-true, and_assoc}
 use mathlib.Core.List.{List}
 use Prim.Native.Nat.{ℕ, ◌+◌, ◌≤◌, ◌<◌}
 use native.Mathlib.Omega.{arith}
-use lib.Dec.{leb}
 use lib.ListN.{length, get_or, drop, drop_of_length-le}
 use Rattle.text.specs.declared.classes.Class.{Class}
-use Rattle.text.specs.Class.{in_class, all_of, run_of}
+use Rattle.text.specs.Class.{in_class, all_of}
 use Rattle.text.proofs.Lists.{rest_at}
 
 -- `good` says whether the bytes before place i are of the class
@@ -30,11 +29,3 @@ module _ {k : Class} {s : List ℕ} {good : Bool} {i : ℕ} (so_far : AllSoFar k
   pub all_end : length s ≤ i → good ≡ all_of k s
   unfolding all_of
   all_end h = sym (so_far.left ∙ rw (drop_of_length-le s h) (and-true good))
-
--- a run's length is asked before its bytes are
-module _ (k : Class) (least most : ℕ) (s : List ℕ) where
-  pub run_outside : (leb least (length s) && leb (length s) most) ≡ false → false ≡ run_of k least most s
-  run_outside e = rw e
-
-  pub run_within : (leb least (length s) && leb (length s) most) ≡ true → {r : Bool} → r ≡ all_of k s → r ≡ run_of k least most s
-  run_within e p = rw e p

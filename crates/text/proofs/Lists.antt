@@ -1,11 +1,11 @@
 -- A list from a place on, as loops that read a slice need it.
-use mathlib.Core.Path.{◌≡◌, ◌∙◌, sym}
+use mathlib.Core.Path.{◌≡◌}
 use mathlib.Core.List.{List, ◌∷◌}
-use Prim.Native.Nat.{ℕ, ◌+◌, ◌-◌, ◌≤◌, ◌<◌}
+use Prim.Native.Nat.{ℕ, ◌+◌, ◌-◌, ◌<◌}
 use native.Mathlib.Numerals.{add-one}
 use native.Mathlib.Omega.{arith}
-use lib.ListN.{length, get_or, take, drop, length-drop, drop_of_length-le}
-use lib.Seq.{drop-cons, drop-length, take_all}
+use lib.ListN.{length, get_or, take, drop, length-drop}
+use lib.Seq.{drop-cons, take_all}
 
 module _ {A : Type 0} where
   -- the element at a place, and what follows it
@@ -15,6 +15,3 @@ module _ {A : Type 0} where
   -- `&s[at..]` as a part up to the end
   pub part_to_end : (at : ℕ) (s : List A) → take (length s - at) (drop at s) ≡ drop at s
   part_to_end at s = take_all (length s - at) (drop at s) (rw length-drop (omega arith))
-
-  pub drop_past : (at : ℕ) (s : List A) → length s ≤ at → drop at s ≡ drop (length s) s
-  drop_past at s h = drop_of_length-le s h ∙ sym (drop-length s)

@@ -3,13 +3,13 @@ use mathlib.Core.Path.{◌≡◌, ◌∙◌, refl, sym, ap}
 use mathlib.Core.Bool.{Bool, true, false, cond, ◌&&◌, ◌||◌, true≢false, and-true}
 use mathlib.Core.List.{List, [], ◌∷◌}
 use Prim.Native.Nat.{ℕ, zero, suc, ◌+◌, ◌*◌, ◌-◌, ◌/◌, ◌≤◌, ◌<◌}
-use native.Mathlib.Nat.{add-zero, suc-mul, div-mul-le_self, div-eq-sub-div, div-eq_of_lt}
+use native.Mathlib.Nat.{suc-mul, div-mul-le_self, div-eq-sub-div, div-eq_of_lt}
 use native.Mathlib.Numerals.{add-one}
 use native.Mathlib.Omega.{arith}
 use borrow.Author.Tests.{eq-eqb, eqb-true, eqb-false, ne_eqb}
 use lib.Dec.{eqb, lit<}
-use lib.ListN.{length, get_or, drop, length-drop}
-use lib.Seq.{drop-drop, drop-length, get_or-drop}
+use lib.ListN.{length, get_or, drop}
+use lib.Seq.{drop-drop, drop-length}
 use Rattle.std.specs.List.{starts_with as starts_with_by}
 use Rattle.text.specs.Word.{starts_with}
 use Rattle.text.specs.Number.{little_endian}

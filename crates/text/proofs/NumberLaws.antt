@@ -11,8 +11,7 @@ use lib.Dec.{leb, lit<}
 use lib.ListN.{length, get_or, drop, drop_of_length-le, length-append}
 use Rattle.text.specs.declared.classes.Class.TheVariants.{Digit}
 use Rattle.text.specs.Class.{in_class}
-use lib.Seq.{get_or-drop}
-use Rattle.text.specs.Number.{digit_of, numeral, number_of, two_digits, four_digits, eight_digits, little_endian}
+use Rattle.text.specs.Number.{digit_of, numeral, number_of, two_digits, four_digits, eight_digits}
 use Rattle.text.proofs.Bools.{and_left, and_right}
 use Rattle.text.proofs.Lists.{rest_at}
 

@@ -1,8 +1,8 @@
 -- Words and shapes, from a place on.
 use mathlib.Core.Path.{◌≡◌, ◌∙◌, sym, refl, ap}
-use mathlib.Core.Bool.{Bool, true, false, ◌&&◌, ◌||◌, and-true, and-false, and_assoc, true≢false}
+use mathlib.Core.Bool.{Bool, true, false, ◌&&◌, ◌||◌, and-true, and-false, and_assoc}
 use mathlib.Core.List.{List, [], ◌∷◌, ◌++◌}
-use Prim.Native.Nat.{ℕ, zero, suc, max, ◌+◌, ◌-◌, ◌≤◌, ◌<◌}
+use Prim.Native.Nat.{ℕ, zero, suc, max, ◌-◌, ◌≤◌, ◌<◌}
 use native.Mathlib.Omega.{arith}
 use borrow.Author.Tests.{eq-eqb, ne_eqb}
 use lib.Dec.{eqb, eqb-suc-zero, eqb-suc-suc}
@@ -11,7 +11,6 @@ use lib.Seq.{drop-append_seam, take_all, take-nil}
 use Rattle.std.specs.List.{list_all, zip}
 use Rattle.text.specs.Word.{starts_with, same, among, one_of}
 use Rattle.text.specs.Shape.{suits, shape}
-use Rattle.text.proofs.Lists.{rest_at}
 
 -- a text shorter than the word does not begin with it
 pub too_short : (word s : List ℕ) → length s < length word → false ≡ starts_with word s

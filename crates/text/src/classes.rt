@@ -65,8 +65,5 @@ pub fn run_of(s: &[u8], class: Class, least: usize, most: usize) -> bool
     ensures { result ≡ run_of class least most s.now }
 {
     let n = s.len();
-    if !((least <= n) & (n <= most)) {
-        return false;
-    }
-    all_of(s, class)
+    (least <= n) && (n <= most) && all_of(s, class)
 }

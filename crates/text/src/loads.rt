@@ -4,7 +4,7 @@ ghost use Rattle.text.specs.Number.{first_bytes, little_endian};
 ghost use Rattle.text.specs.Word.{starts_with};
 ghost use Rattle.text.specs.Stride.{Sized, Rowed, some_of_four, next_row, PassedTo};
 
-// The N bytes from a place on: a copy of so few is one load.
+// The N bytes from a place on, which are there: so they are one load, where `bytes_from` of numbers.rt tests each place.
 fn bytes_at<const N: usize>(s: &[u8], at: usize) -> [u8; N]
     requires { at + N ≤ length s.now }
     ensures { result ≡ first_bytes N (drop at s.now) }
@@ -47,8 +47,9 @@ fn in_four(s: &[u8], at: usize, width: usize, place: usize, size: usize, asked: 
 }
 
 // Rows with another word are passed four a turn: the place of four of which one has it, or of the last few.
-// The place goes on by hand, here and in `next_row`, since where a loop stops is the answer, which a `for` does not hold. Over 32 rows of 30
-// bytes a search takes 130 instructions so, 149 with a `for` over the rows' numbers, and a quarter more by `chunks_exact` and `position`.
+// The place is counted by hand, here and in `next_row`: where the loop stops is the answer, which a `for` does not hold.
+// Through 32 rows of 30 bytes it takes 130 instructions so and 149 with a `for` over the rows' numbers; through 47 rows
+// 165 so and 211 by `chunks_exact` and `position`.
 fn past_fours(s: &[u8], from: usize, width: usize, place: usize, size: usize, asked: u64) -> usize
     requires { Rowed width place size × (from ≤ length s.now) }
     ensures { PassedTo width place size asked s.now from result }
@@ -67,7 +68,8 @@ fn past_fours(s: &[u8], from: usize, width: usize, place: usize, size: usize, as
     at
 }
 
-// The place of the next row that has the word. Widths that are constants where this is called make the turns of four a few instructions.
+// The place of the next row that has the word. Widths that are constants where this is called make the turns of four a
+// few instructions.
 pub fn next_row(s: &[u8], from: usize, width: usize, place: usize, size: usize, asked: u64) -> usize
     requires { Rowed width place size × (from ≤ length s.now) }
     ensures { result ≡ next_row width place size asked s.now from }

@@ -49,7 +49,8 @@ pub fn joined_number(s: &[u8], t: &[u8]) -> u64
     written_on(written_on(0, s), t)
 }
 
-// The first two, four and eight digits, as dates and times have them.
+// The first two, four and eight digits, as dates and times have them. Each is two of the one before, as in specs/: with
+// the size as a parameter the power of ten would be one too, which is no plainer.
 #[tactic(auto, using(crate::proofs::NumberLaws::digit_small), unfolding(crate::specs::Number::two_digits))]
 pub fn two_digits(s: &[u8]) -> u32
     ensures { result ≡ two_digits s.now }
@@ -79,6 +80,7 @@ fn bytes_from<const N: usize>(s: &[u8], at: usize) -> [u8; N]
     array::from_fn(|i| byte_at(t, i))
 }
 
+// The number that two bytes from a place on write, and that four write.
 #[tactic(auto, using(crate::proofs::ByteLaws::two_read))]
 pub fn le16(s: &[u8], at: usize) -> u16
     ensures { result ≡ little_endian 2 (drop at s.now) }

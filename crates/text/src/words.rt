@@ -5,8 +5,8 @@ ghost use Rattle.text.specs.Shape.{suits, shape};
 
 use crate::classes::{Class, is_in};
 
-// Compared from the word's end, since words and identifiers that differ mostly begin alike: its last byte is mostly all that another word
-// costs.
+// Compared from the word's end, since words and identifiers that differ mostly begin alike: its last byte is mostly all
+// that another word costs.
 pub fn starts_with(s: &[u8], word: &[u8]) -> bool
     ensures { result ≡ starts_with word.now s.now }
 {
@@ -28,7 +28,8 @@ pub fn same(s: &[u8], word: &[u8]) -> bool
     (s.len() == word.len()) & starts_with(s, word)
 }
 
-// One of the words of `width` bytes that stand one after the other in `words`. No bytes at all are in every byte of them.
+// One of the words of `width` bytes that stand one after the other in `words`. No bytes begin every word, so a width of
+// 0 goes through them as 1 does.
 pub fn one_of(s: &[u8], words: &[u8], width: usize) -> bool
     ensures { result ≡ one_of width words.now s.now }
 {

@@ -1,10 +1,9 @@
 -- Laws of the syntax: the row of a byte, and a text that is read up to a place.
-use Prim.Native.Nat.{ℕ, zero, suc, ◌+◌, ◌-◌, ◌≤◌, ◌<◌}
+use Prim.Native.Nat.{ℕ, zero, suc, ◌+◌, ◌≤◌, ◌<◌}
 use mathlib.Core.Path.{◌≡◌, ◌∙◌, refl, ap}
 use mathlib.Core.Bool.{Bool, true, ◌&&◌}
 use mathlib.Core.List.{List, [], ◌∷◌}
 use native.Mathlib.Omega.{arith}
-use native.Mathlib.Numerals.{sub-one}
 use lib.Dec.{leb, ltb}
 use lib.ListN.{length, take, drop, get_or, drop_of_length-le}
 use borrow.Author.Tests.{le-leb, lt-leb, leb-true, ltb-true}
@@ -15,7 +14,7 @@ use Rattle.text.specs.Class.{in_class, all_of}
 use Rattle.utf8.specs.declared.Next.{Next}
 use Rattle.utf8.specs.declared.Next.TheVariants.{First, Tail, Never}
 use Rattle.std.proofs.Common.{Some}
-use Rattle.utf8.specs.Abnf.{Row, upto, look, rows, within, awaited, after, starts, ended, counted, points, points_within}
+use Rattle.utf8.specs.Abnf.{Row, upto, look, rows, within, after, starts, ended, counted, points, points_within}
 
 pub inside : (least most b : ℕ) → least ≤ b → b ≤ most → within least most b ≡ true
 inside least most b h g = rw (le-leb least b h, le-leb b most g)
@@ -44,10 +43,6 @@ hits zero (upto most next ∷ rows) low b e h g = rw (le-leb b most g)
 hits (suc j) (upto k x ∷ rows) low b e h g =
     rw (lt-leb b k (omega (arith, ltb-true k low (and_left (ltb k low) (below low (take j rows)) e))))
     (hits j rows low b (and_right (ltb k low) (below low (take j rows)) e) h g)
-
-pub awaits : (more : ℕ) → (more ≡ 0 → ⊥) → Tail 0x80 0xBF (more - 1) ≡ awaited more
-awaits zero h = absurd (h refl)
-awaits (suc more) h = rw sub-one
 
 pub starts_small : (next : Next) → starts next ≤ 1
 starts_small First = omega arith

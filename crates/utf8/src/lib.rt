@@ -20,6 +20,7 @@ enum Next {
 
 // The lines of the syntax, by their first byte, without its controls. Where the second byte has a narrower range, the
 // others would write a shorter code point again, a surrogate, or one above U+10FFFF.
+#[tactic(auto, unfolding(crate::specs::Abnf::look))]
 fn first(b: u8) -> Next
     ensures { result ≡ first b }
 {

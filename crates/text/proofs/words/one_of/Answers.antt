@@ -1,6 +1,5 @@
-use Rattle.std.proofs.Common.{◌≡◌, ◌++◌, length, sym, ◌∙◌, ap, arith}
+use Rattle.std.proofs.Common.{sym, ◌∙◌, arith}
 use Rattle.std.specs.Slice.Iter.{chunks_exact_rest}
-use Rattle.text.specs.Word.{among}
 use Rattle.text.proofs.WordLaws.{other_width, of_width, among_word, among_short}
 use Rattle.text.proofs.words.one_of.Goals as goal
 
