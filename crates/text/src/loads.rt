@@ -35,7 +35,8 @@ pub fn begins_with(s: &[u8], word: &[u8]) -> bool
     s.starts_with(word)
 }
 
-// One of the four rows from a place on has the word.
+// One of the four rows from a place on has the word. Width, place, size and word stay parameters, as `next_row` is called
+// with them: a struct would be made there for these two steps alone, which is no plainer.
 fn in_four(s: &[u8], at: usize, width: usize, place: usize, size: usize, asked: u64) -> bool
     requires { Rowed width place size × (at + 4 * width ≤ length s.now) }
     ensures { result ≡ some_of_four width place size asked s.now at }
