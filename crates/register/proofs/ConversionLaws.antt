@@ -2,6 +2,7 @@
 use mathlib.Core.Path.{◌≡◌, ◌∙◌, refl, sym, ap}
 use mathlib.Core.Bool.{true, cond, ◌&&◌, ◌||◌}
 use mathlib.Core.List.{List, [], ◌∷◌, ◌++◌, append_assoc}
+use Rattle.std.proofs.Common.{Ok, Err}
 use Prim.Native.Nat.{ℕ, zero, suc, ◌+◌, ◌*◌, ◌-◌, ◌≤◌, ◌<◌}
 use native.Mathlib.Numerals.{add-one}
 use native.Mathlib.Omega.{arith}
@@ -18,6 +19,9 @@ use Rattle.register.specs.Rows.{Row, row_in, rows_in, rows_of, own_from, look, s
 use Rattle.register.specs.Table.{holds, rows_with}
 use Rattle.register.specs.Written.{little_bytes}
 use Rattle.register.specs.Conversion.{undated, in_version2, conversion_answer, converted, Converted}
+use Rattle.register.specs.Refused.{rows_to_convert}
+use Rattle.register.specs.declared.conversion.Refusal.{Refusal}
+use Rattle.register.specs.declared.conversion.Refusal.TheVariants.{Source, Target}
 use Rattle.register.proofs.Stores.{sets_append, sets_front, drop_sets_past, drop_take}
 use Rattle.register.proofs.Words.{little_read}
 use Rattle.register.proofs.FrameLaws.{framed_is, is_framed, capacity_small, fits_bytes, rows_within}
@@ -46,23 +50,8 @@ undated_length (suc k) s h =
     let rest : length (undated k (drop 74 s)) ≡ k * 78 = undated_length k (drop 74 s) less in
     length-append (take 74 s) (no_day ++ undated k (drop 74 s)) ∙ rw (length-take-le 74 s (omega arith)) (omega arith)
 
--- the first rows are written
-pub record WrittenSoFar (source target₀ : List ℕ) (count : ℕ) (target : List ℕ) (row : ℕ) : Type 0 where
-  pub within : row ≤ count
-  pub source_room : place 0 count ≤ length source
-  pub target_room : place 4 count ≤ length target₀
-  pub now_is : target ≡ sets target₀ 9 (undated row (drop 9 source))
-
-pub written_start :
-    {source target₀ : List ℕ} {count : ℕ} → place 0 count ≤ length source → place 4 count ≤ length target₀ → WrittenSoFar source target₀ count target₀ 0
-unfolding undated
-written_start h l = record { within = omega arith; source_room = h; target_room = l; now_is = refl }
-
-module _ {source target₀ : List ℕ} {count : ℕ} {target : List ℕ} {row : ℕ} (so_far : WrittenSoFar source target₀ count target row) where
-  pub written_length : length target ≡ length target₀
-  written_length = ap length so_far.now_is ∙ length-sets target₀ 9 (undated row (drop 9 source))
-
-  -- the next row, as the code cuts it out
+-- a row more is written: the next one, as the code cuts it out
+module _ (source : List ℕ) (row : ℕ) where
   abbrev cut : List ℕ
   cut = take (9 + row * 74 + 74 - (9 + row * 74)) (drop (9 + row * 74) source)
 
@@ -71,43 +60,33 @@ module _ {source target₀ : List ℕ} {count : ℕ} {target : List ℕ} {row : 
       let size : 9 + row * 74 + 74 - (9 + row * 74) ≡ 74 = omega arith in
       ap (λ k. take k (drop (9 + row * 74) source)) size ∙ ap (take 74) (sym (drop-drop (row * 74) 9 source))
 
-  module _ (h : row < count) where
+  module _ (within : place 0 (row + 1) ≤ length source) where
     pub cut_length : length cut ≡ 74
     cut_length =
-        let room : 74 ≤ length (drop (row * 74) (drop 9 source)) = simp length-drop (omega (arith, so_far.source_room)) in
+        let room : 74 ≤ length (drop (row * 74) (drop 9 source)) = simp length-drop (omega arith) in
         ap length cut_is ∙ length-take-le 74 (drop (row * 74) (drop 9 source)) room
 
     pub written_on :
-        {one left : List ℕ} → one ≡ sets target (9 + row * 78) cut → left ≡ sets one (9 + row * 78 + 74) no_day
-        → WrittenSoFar source target₀ count left (row + 1)
-    written_on {one} {left} first second =
+        (target₀ : List ℕ) {target one left : List ℕ} → target ≡ sets target₀ 9 (undated row (drop 9 source))
+        → one ≡ sets target (9 + row * 78) cut → left ≡ sets one (9 + row * 78 + 74) no_day
+        → left ≡ sets target₀ 9 (undated (row + 1) (drop 9 source))
+    written_on target₀ {target} {one} {left} so_far first second =
         let s : List ℕ = drop 9 source in
-        let room : row * 74 ≤ length s = simp length-drop (omega (arith, so_far.source_room)) in
-        record {
-          within = omega arith;
-          source_room = so_far.source_room;
-          target_room = so_far.target_room;
-          now_is =
-              second
-              ∙ ap (λ l. sets l (9 + row * 78 + 74) no_day) first
-              ∙ ap (λ m. sets (sets target (9 + row * 78) cut) (9 + row * 78 + m) no_day) (sym cut_length)
-              ∙ sym (sets_append target (9 + row * 78) cut no_day)
-              ∙ ap (λ l. sets l (9 + row * 78) (cut ++ no_day)) so_far.now_is
-              ∙ ap (λ m. sets (sets target₀ 9 (undated row s)) (9 + m) (cut ++ no_day)) (sym (undated_length row s room))
-              ∙ sym (sets_append target₀ 9 (undated row s) (cut ++ no_day))
-              ∙ ap (λ l. sets target₀ 9 (undated row s ++ (l ++ no_day))) cut_is
-              ∙ ap (sets target₀ 9) (sym (undated_more row s) ∙ ap (λ k. undated k s) (sym (add-one row)));
-        }
-
-  pub written_end : count ≤ row → target ≡ sets target₀ 9 (undated count (drop 9 source))
-  written_end h =
-      let e : row ≡ count = omega (arith, so_far.within) in
-      so_far.now_is ∙ ap (λ k. sets target₀ 9 (undated k (drop 9 source))) e
+        let room : row * 74 ≤ length s = simp length-drop (omega arith) in
+        second
+        ∙ ap (λ l. sets l (9 + row * 78 + 74) no_day) first
+        ∙ ap (λ m. sets (sets target (9 + row * 78) cut) (9 + row * 78 + m) no_day) (sym cut_length)
+        ∙ sym (sets_append target (9 + row * 78) cut no_day)
+        ∙ ap (λ l. sets l (9 + row * 78) (cut ++ no_day)) so_far
+        ∙ ap (λ m. sets (sets target₀ 9 (undated row s)) (9 + m) (cut ++ no_day)) (sym (undated_length row s room))
+        ∙ sym (sets_append target₀ 9 (undated row s) (cut ++ no_day))
+        ∙ ap (λ l. sets target₀ 9 (undated row s ++ (l ++ no_day))) cut_is
+        ∙ ap (sets target₀ 9) (sym (undated_more row s) ∙ ap (λ k. undated k s) (sym (add-one row)))
 
 -- a row has 74 bytes exactly in a framed register of version 1
 module _ {w : ℕ} (source target : List ℕ) (told : w ≡ row_width source) where
-  pub refused_source : (w ≡ 74 → ⊥) → 6 ≡ conversion_answer source target
-  unfolding conversion_answer day_width
+  pub refused_source : (w ≡ 74 → ⊥) → Err Source ≡ rows_to_convert source target
+  unfolding rows_to_convert day_width
   refused_source other =
       by_test
       (framed source && eqb (version source) 1)
@@ -132,13 +111,62 @@ module _ {w : ℕ} (source target : List ℕ) (told : w ≡ row_width source) wh
         absurd (omega arith)))
 
     module _ {count : ℕ} (counts : count ≡ used source) where
-      pub refused_target : length target < 9 + count * 78 → 12 ≡ conversion_answer source target
-      unfolding conversion_answer
+      pub refused_target : length target < 9 + count * 78 → Err Target ≡ rows_to_convert source target
+      unfolding rows_to_convert
       refused_target short = rw (is_first, lt-ltb (length target) (place 4 (used source)) (omega arith))
 
-      pub not_refused : 9 + count * 78 ≤ length target → 0 ≡ conversion_answer source target
-      unfolding conversion_answer
-      not_refused room = rw (is_first, le-ltb (length target) (place 4 (used source)) (omega arith))
+      pub not_refused : 9 + count * 78 ≤ length target → Ok count ≡ rows_to_convert source target
+      unfolding rows_to_convert
+      not_refused room = rw (is_first, le-ltb (length target) (place 4 (used source)) (omega arith)) (ap Ok counts)
+
+-- the number of a refusal
+abbrev pub refusal_number : Refusal → ℕ
+refusal_number Source = 6
+refusal_number Target = 12
+
+some_number : (refusal : Refusal) → refusal_number refusal ≡ 0 → ⊥
+some_number Source e = omega arith
+some_number Target e = omega arith
+
+-- what is answered in words is answered in numbers
+module _ (source target : List ℕ) where
+  pub refusal_is : {no : Refusal} → rows_to_convert source target ≡ Err no → conversion_answer source target ≡ refusal_number no
+  unfolding conversion_answer rows_to_convert
+  refusal_is {no} h =
+      by_test
+      (framed source && eqb (version source) 1)
+      (λ t.
+      by_test
+      (ltb (length target) (place 4 (used source)))
+      (λ l.
+      let e : Err Target ≡ Err no = rw (t, l) at h in
+      let z : Target ≡ no = cc in
+      rw (t, l) (ap refusal_number z))
+      (λ l.
+      let e : Ok (used source) ≡ Err no = rw (t, l) at h in
+      cc))
+      (λ t.
+      let e : Err Source ≡ Err no = rw t at h in
+      let z : Source ≡ no = cc in
+      rw t (ap refusal_number z))
+
+  pub rows_are : {count : ℕ} → rows_to_convert source target ≡ Ok count → (conversion_answer source target ≡ 0) × (count ≡ used source)
+  unfolding conversion_answer rows_to_convert
+  rows_are {count} h =
+      by_test
+      (framed source && eqb (version source) 1)
+      (λ t.
+      by_test
+      (ltb (length target) (place 4 (used source)))
+      (λ l.
+      let e : Err Target ≡ Ok count = rw (t, l) at h in
+      cc)
+      (λ l.
+      let e : Ok (used source) ≡ Ok count = rw (t, l) at h in
+      (rw (t, l), cc)))
+      (λ t.
+      let e : Err Source ≡ Ok count = rw t at h in
+      cc)
 
 -- a register of version 1 has no day in its rows, which stand within its bytes
 pub first_undated : (source : List ℕ) → version source ≡ 1 → day_width source ≡ 0
@@ -181,33 +209,37 @@ module _ (source target : List ℕ) where
       let z : 6 ≡ 0 = rw t at h in
       absurd (omega arith))
 
-  -- the rows stand within the source, and have room in the target
-  pub conversion_room : {count : ℕ} → conversion_answer source target ≡ 0 → count ≡ used source → (place 0 count ≤ length source) × (place 4 count ≤ length target)
-  conversion_room h counts =
-      let (whole, one, room, done) = conversion_is h in
-      (omega (arith, counts, (framed_is source whole).head, rw length-drop at (first_rows source whole one)), omega (arith, counts, room))
+  module _ {count : ℕ} (accepted : rows_to_convert source target ≡ Ok count) where
+    -- the rows stand within the source, and have room in the target
+    pub conversion_room : (place 0 count ≤ length source) × (place 4 count ≤ length target)
+    conversion_room =
+        let (none, counts) = rows_are source target accepted in
+        let (whole, one, room, done) = conversion_is none in
+        (omega (arith, counts, (framed_is source whole).head, rw length-drop at (first_rows source whole one)), omega (arith, counts, room))
 
-  pub conversion_none : {answer : ℕ} → answer ≡ conversion_answer source target → (answer ≡ 0 → ⊥) → Converted source target answer target
-  conversion_none says refused = record { says = says; leaves = sym (conversion_refused (λ h. refused (says ∙ h))) }
+    -- the head, then the rows
+    pub conversion_done :
+        {head left : List ℕ} → head ≡ sets target 0 (ascii "TRN" ++ (little_bytes 2 2 ++ little_bytes 4 count))
+        → left ≡ sets head 9 (undated count (drop 9 source)) → Converted source target 0 left
+    unfolding in_version2
+    conversion_done {head} {left} first second =
+        let (none, counts) = rows_are source target accepted in
+        let front : List ℕ = ascii "TRN" ++ (little_bytes 2 2 ++ little_bytes 4 count) in
+        let rows : List ℕ = undated count (drop 9 source) in
+        record {
+          says = sym none;
+          leaves =
+              second
+              ∙ ap (λ l. sets l 9 rows) first
+              ∙ sym (sets_append target 0 front rows)
+              ∙ ap (λ k. sets target 0 (ascii "TRN" ++ (little_bytes 2 2 ++ (little_bytes 4 k ++ undated k (drop 9 source))))) counts
+              ∙ sym (converted_is none);
+        }
 
-  -- the head, then the rows
-  pub conversion_done :
-      {answer count : ℕ} {head left : List ℕ} → answer ≡ conversion_answer source target → answer ≡ 0 → count ≡ used source
-      → head ≡ sets target 0 (ascii "TRN" ++ (little_bytes 2 2 ++ little_bytes 4 count)) → left ≡ sets head 9 (undated count (drop 9 source))
-      → Converted source target answer left
-  unfolding in_version2
-  conversion_done {answer} {count} {head} {left} says accepted counts first second =
-      let front : List ℕ = ascii "TRN" ++ (little_bytes 2 2 ++ little_bytes 4 count) in
-      let rows : List ℕ = undated count (drop 9 source) in
-      record {
-        says = says;
-        leaves =
-            second
-            ∙ ap (λ l. sets l 9 rows) first
-            ∙ sym (sets_append target 0 front rows)
-            ∙ ap (λ k. sets target 0 (ascii "TRN" ++ (little_bytes 2 2 ++ (little_bytes 4 k ++ undated k (drop 9 source))))) counts
-            ∙ sym (converted_is (sym says ∙ accepted));
-      }
+  pub conversion_none : {refusal : Refusal} → rows_to_convert source target ≡ Err refusal → Converted source target (refusal_number refusal) target
+  conversion_none {refusal} refused =
+      let says : conversion_answer source target ≡ refusal_number refusal = refusal_is source target refused in
+      record { says = sym says; leaves = sym (conversion_refused (λ none. some_number refusal (sym says ∙ none))) }
 
 -- a pair's value in version 2: the same state, and day 0
 abbrev pub undated_value : List ℕ → List ℕ

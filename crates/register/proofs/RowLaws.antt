@@ -277,16 +277,16 @@ used_row w register k told e =
     let few : k < used register = ltb-true k (used register) (and_right (framed register) (ltb k (used register)) e) in
     row_at w register k told t (omega (arith, (framed_is register t).fits))
 
-module _ (register : List ℕ) (k : ℕ) where
-  pub stands_unused : is_used register k ≡ false → Absent ≡ standing_at register (Some k)
+-- by the test that the code makes
+pub tested_row : {w : ℕ} {register : List ℕ} {k : ℕ} {used : Bool} → w ≡ row_width register → used ≡ is_used register k → used ≡ true → RowAt w register k
+tested_row {w} {register} {k} told tests h = used_row w register k told (sym tests ∙ h)
+
+module _ (register : List ℕ) (k : ℕ) {used : Bool} (tests : used ≡ is_used register k) where
+  pub stands_unused : used ≡ false → Absent ≡ standing_at register (Some k)
   unfolding standing_at
-  stands_unused e = rw e
+  stands_unused e = rw (sym tests ∙ e)
 
-  module _ (e : is_used register k ≡ true) {state : ℕ} (read : state ≡ get_or register (place (day_width register) k + 73) 0) where
-    pub stands_live : state ≡ 1 → Live ≡ standing_at register (Some k)
-    unfolding standing_at
-    stands_live h = rw (e, ← read, h)
-
-    pub stands_cancelled : (state ≡ 1 → ⊥) → Cancelled ≡ standing_at register (Some k)
-    unfolding standing_at
-    stands_cancelled h = rw (e, ← read, ne_eqb state 1 h)
+  -- by the byte that stands where the width says
+  pub stands_used : {w state : ℕ} → w ≡ row_width register → used ≡ true → state ≡ get_or register (9 + k * w + 73) 0 → state_of state ≡ standing_at register (Some k)
+  unfolding standing_at
+  stands_used told e reads = rw (sym tests ∙ e) (ap state_of (reads ∙ ap (λ p. get_or register (p + 73) 0) (tested_row told tests e).place_is))

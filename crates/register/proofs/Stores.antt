@@ -1,12 +1,13 @@
 -- Bytes stored one after the other from a place on, and zeros.
 use mathlib.Core.Path.{◌≡◌, ◌∙◌, refl, sym, ap}
-use mathlib.Core.List.{List, [], ◌∷◌, ◌++◌}
+use mathlib.Core.List.{List, [], ◌∷◌, ◌++◌, append_assoc}
 use Prim.Native.Nat.{ℕ, zero, suc, ◌+◌, ◌-◌, ◌≤◌, ◌<◌}
 use native.Mathlib.Nat.{add-zero, zero-add, suc-add, sub-zero, zero-sub, suc-sub-suc}
 use native.Mathlib.Numerals.{add-one}
 use native.Mathlib.Omega.{arith}
-use lib.ListN.{length, get_or, take, drop, set, replicate}
-use lib.Seq.{sets, length-sets, sets-eq, take-set-le, drop-set-add, drop-set-lt, take-suc, take_all, take-nil, length-take-le}
+use borrow.Rule.Slice.PartMut.{put_mid}
+use lib.ListN.{length, take, drop, set, replicate}
+use lib.Seq.{sets, sets-eq, drop-drop, take-set-le, drop-set-add, drop-set-lt, take-nil}
 
 module _ {A : Type 0} where
   pub sets_append : (l : List A) (i : ℕ) (vs ws : List A) → sets l i (vs ++ ws) ≡ sets (sets l i vs) (i + length vs) ws
@@ -53,31 +54,9 @@ module _ {A : Type 0} where
   take_replicate (suc i) zero a h = absurd (omega arith)
   take_replicate (suc i) (suc k) a h = ap (λ l. a ∷ l) (take_replicate i k a (omega arith))
 
-  -- the first i of `part` are stored
-  pub record StoredSoFar (bytes₀ part : List A) (at : ℕ) (bytes : List A) (i : ℕ) : Type 0 where
-    pub within : i ≤ length part
-    pub room : at + length part ≤ length bytes₀
-    pub now_is : bytes ≡ sets bytes₀ at (take i part)
-
-  pub stored_start : {bytes₀ part : List A} {at : ℕ} → at + length part ≤ length bytes₀ → StoredSoFar bytes₀ part at bytes₀ 0
-  stored_start h = record { within = omega arith; room = h; now_is = refl }
-
-  module _ {bytes₀ part : List A} {at : ℕ} {bytes : List A} {i : ℕ} (so_far : StoredSoFar bytes₀ part at bytes i) where
-    pub stored_length : length bytes ≡ length bytes₀
-    stored_length = ap length so_far.now_is ∙ length-sets bytes₀ at (take i part)
-
-    pub stored_on : (d : A) → i < length part → StoredSoFar bytes₀ part at (set bytes (at + i) (get_or part i d)) (i + 1)
-    stored_on d h =
-        let n : at + length (take i part) ≡ at + i = ap (λ k. at + k) (length-take-le i part so_far.within) in
-        record {
-          within = omega arith;
-          room = so_far.room;
-          now_is =
-              ap (λ l. set l (at + i) (get_or part i d)) so_far.now_is
-              ∙ ap (λ k. sets (sets bytes₀ at (take i part)) k (get_or part i d ∷ [])) (sym n)
-              ∙ sym (sets_append bytes₀ at (take i part) (get_or part i d ∷ []))
-              ∙ rw (add-one, take-suc part i d);
-        }
-
-    pub stored_end : length part ≤ i → bytes ≡ sets bytes₀ at part
-    stored_end h = so_far.now_is ∙ ap (λ l. sets bytes₀ at l) (take_all i part h)
+  -- what a write to the bytes from `at` up to `end` leaves
+  pub stored : (l part : List A) (at end : ℕ) → end ≡ at + length part → end ≤ length l → put_mid at (end - at) l part ≡ sets l at part
+  stored l part at end e h =
+      let k : end - at ≡ length part = omega arith in
+      let h' : at + length part ≤ length l = omega arith in
+      rw k ((λ i. take at l ++ (part ++ drop-drop (length part) at l i)) ∙ sym (sets-eq part l at h' ∙ append_assoc (take at l) part (drop (at + length part) l)))

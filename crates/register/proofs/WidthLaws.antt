@@ -1,15 +1,17 @@
 -- The width of a row: worked out of the head once, and what it tells where it is handed on.
 use mathlib.Core.Logic.{◌⊎◌, inl, inr}
 use mathlib.Core.Path.{◌≡◌, ◌∙◌, refl, sym, ap}
-use mathlib.Core.Bool.{true, false, cond, not, ◌&&◌, ◌||◌}
+use mathlib.Core.Bool.{Bool, true, false, cond, not, ◌&&◌, ◌||◌}
 use mathlib.Core.List.{List}
+use Rattle.std.proofs.Common.{Option, Some, None}
 use Prim.Native.Nat.{ℕ, ◌+◌, ◌*◌, ◌-◌, ◌≤◌, ◌<◌}
 use native.Mathlib.Omega.{arith}
 use borrow.Author.Tests.{leb-true, leb-false, le-leb, eqb-true, eqb-false, eq-eqb, ne_eqb, ltb-true, ltb-false}
 use lib.Dec.{leb, ltb, eqb}
-use lib.ListN.{length}
+use lib.ListN.{length, drop}
 use Rattle.text.specs.Ascii.{ascii}
 use Rattle.text.specs.Word.{starts_with}
+use Rattle.text.specs.Number.{little_endian}
 use Rattle.text.proofs.Bools.{by_test, and_left, or_left, or_right}
 use Rattle.register.specs.Frame.{width, place, version, day_width, used, capacity, framed, full, is_used, row_width}
 use Rattle.register.proofs.FrameLaws.{Framed, framed_is, capacity_small, row_within, fits_bytes, bytes_fit}
@@ -76,6 +78,70 @@ module _ (register : List ℕ) where
         rw (marked, k, le-leb _ _ (fits_bytes register few (rw w at h))) w)
         (λ k.
         rw (marked, k, or_left (eqb (version register) 1) (eqb (version register) 2) k, or_right (eqb (version register) 1) (eqb (version register) 2) k))
+
+-- the same as an answer that may be none
+abbrev pub version_width : ℕ → Option ℕ
+version_width v = cond (eqb v 1) (Some 74) (cond (eqb v 2) (Some 78) None)
+
+version_some : (v : ℕ) {w : ℕ} → Some w ≡ version_width v → w ≡ width_in v
+version_some v {w} h =
+    by_test
+    (eqb v 1)
+    (λ t.
+    let e : Some w ≡ Some 74 = rw t at h in
+    rw t cc)
+    (λ t.
+    by_test
+    (eqb v 2)
+    (λ u.
+    let e : Some w ≡ Some 78 = rw (t, u) at h in
+    rw (t, u) cc)
+    (λ u.
+    let e : Some w ≡ None = rw (t, u) at h in
+    cc))
+
+version_none : (v : ℕ) → None ≡ version_width v → (eqb v 1 || eqb v 2) ≡ false
+version_none v h =
+    by_test
+    (eqb v 1)
+    (λ t.
+    let e : None ≡ Some 74 = rw t at h in
+    cc)
+    (λ t.
+    by_test
+    (eqb v 2)
+    (λ u.
+    let e : None ≡ Some 78 = rw (t, u) at h in
+    cc)
+    (λ u. rw (t, u)))
+
+-- what the code reads of the head, one after the other
+module _ (register : List ℕ) {starts : Bool} (reads : starts ≡ starts_with (ascii "TRN") register) where
+  pub read_no_mark : (leb 9 (length register) && starts) ≡ false → 0 ≡ row_width register
+  read_no_mark h = no_mark register (rw (sym reads) h)
+
+  module _ (h : (leb 9 (length register) && starts) ≡ true) where
+    marked : (leb 9 (length register) && starts_with (ascii "TRN") register) ≡ true
+    marked = rw (sym reads) h
+
+    module _ {bits : ℕ} (le : bits ≡ little_endian 2 (drop 3 register)) where
+      the_version : bits ≡ version register
+      unfolding version
+      the_version = le
+
+      pub read_no_version : None ≡ version_width bits → 0 ≡ row_width register
+      unfolding row_width framed
+      read_no_version none = rw (marked, version_none (version register) (rw the_version at none))
+
+      module _ {w : ℕ} (some : Some w ≡ version_width bits) {count : ℕ} (counts : count ≡ used register) where
+        its_width : w ≡ width_in (version register)
+        its_width = version_some (version register) (rw the_version at some)
+
+        pub read_too_many : length register - 9 < count * w → 0 ≡ row_width register
+        read_too_many over = too_many register marked (rw (counts, its_width) at over)
+
+        pub read_width : count ≤ 4294967295 → count * w ≤ length register - 9 → w ≡ row_width register
+        read_width few fits = its_width ∙ width_is register marked (rw counts at few) (rw (counts, its_width) at fits)
 
 -- a row has 74 bytes, or 78
 pub width_known : (register : List ℕ) → (width (day_width register) ≡ 74) ⊎ (width (day_width register) ≡ 78)

@@ -5,3 +5,4 @@ pub mod Rows
 pub mod Written
 pub mod Table
 pub mod Conversion
+pub mod Refused

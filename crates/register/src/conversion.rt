@@ -4,23 +4,33 @@ ghost use Rattle.std.proofs.lemmas.List.Edits.{sets};
 ghost use Rattle.text.specs.Ascii.{ascii};
 ghost use Rattle.register.specs.Frame.{place};
 ghost use Rattle.register.specs.Written.{little_bytes};
-ghost use Rattle.register.specs.Conversion.{undated, conversion_answer, Converted};
+ghost use Rattle.register.specs.Conversion.{undated, Converted};
+ghost use Rattle.register.specs.Refused.{rows_to_convert};
 
 use crate::frame::{row_width, used};
 use crate::pairs::copy_in;
 use crate::writes::write_le32;
 
-// Why the conversion is refused; 0 where it is not.
-fn refusal(from: &[u8], to: &[u8]) -> u16
-    ensures { result ≡ conversion_answer from.now to.now }
+// Why a register is not converted, by its number.
+#[derive(Clone, Copy, PartialEq, Eq)]
+enum Refusal {
+    // the source is badly framed, or not of version 1
+    Source = 6,
+    // the target has no room for the rows
+    Target = 12,
+}
+
+fn rows_to_convert(from: &[u8], to: &[u8]) -> Result<u32, Refusal>
+    ensures { result ≡ rows_to_convert from.now to.now }
 {
     if row_width(from) != 74 {
-        return 6;
+        return Err(Refusal::Source);
     }
-    if to.len() < 9 + used(from) as usize * 78 {
-        return 12;
+    let count = used(from);
+    if to.len() < 9 + count as usize * 78 {
+        return Err(Refusal::Target);
     }
-    0
+    Ok(count)
 }
 
 // Mark, version 2 and the used count.
@@ -29,8 +39,7 @@ fn write_head(to: &mut [u8], count: u32)
     ensures { to.new ≡ sets to.old 0 (ascii "TRN" ++ (little_bytes 2 2 ++ little_bytes 4 count)) }
 {
     copy_in(to, 0, b"TRN");
-    to[3] = 2;
-    to[4] = 0;
+    copy_in(to, 3, &2u16.to_le_bytes());
     write_le32(to, 5, count);
 }
 
@@ -39,12 +48,10 @@ fn write_rows(from: &[u8], to: &mut [u8], count: usize)
     requires { (place 0 count ≤ length from.now) × (place 4 count ≤ length to.old) }
     ensures { to.new ≡ sets to.old 9 (undated count (drop 9 from.now)) }
 {
-    let mut row = 0;
-    while row < count {
+    for row in 0..count {
         let at = 9 + row * 74;
         copy_in(to, 9 + row * 78, &from[at..at + 74]);
         write_le32(to, 9 + row * 78 + 74, 0);
-        row += 1;
     }
 }
 
@@ -52,12 +59,12 @@ fn write_rows(from: &[u8], to: &mut [u8], count: usize)
 pub fn convert(from: &[u8], to: &mut [u8]) -> u16
     ensures { Converted from.now to.old result to.new }
 {
-    let no = refusal(from, to);
-    if no != 0 {
-        return no;
+    match rows_to_convert(from, to) {
+        Ok(count) => {
+            write_head(to, count);
+            write_rows(from, to, count as usize);
+            0
+        }
+        Err(refusal) => refusal as u16,
     }
-    let count = used(from);
-    write_head(to, count);
-    write_rows(from, to, count as usize);
-    no
 }

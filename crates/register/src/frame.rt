@@ -1,5 +1,5 @@
 // The head of a register, and the rows behind it.
-ghost use Rattle.std.specs.Prelude.{◌≡◌, cond, eqb};
+ghost use Rattle.std.specs.Prelude.{◌≡◌, Some, None, cond, eqb};
 ghost use Rattle.register.specs.Frame.{used, full, is_used, row_width};
 
 use text::{le16, le32, starts_with};
@@ -11,17 +11,15 @@ pub fn used(register: &[u8]) -> u32
     le32(register, 5)
 }
 
-// The bytes of a row in a version: 0 where there is no such version.
-fn width_in(version: u16) -> usize
-    ensures { result ≡ cond (eqb version 1) 74 (cond (eqb version 2) 78 0) }
+// The bytes of a row in a version that there is.
+fn width_in(version: u16) -> Option<usize>
+    ensures { result ≡ cond (eqb version 1) (Some 74) (cond (eqb version 2) (Some 78) None) }
 {
-    if version == 1 {
-        return 74;
+    match version {
+        1 => Some(74),
+        2 => Some(78),
+        _ => None,
     }
-    if version == 2 {
-        return 78;
-    }
-    0
 }
 
 // The bytes of a row; 0 where the register is not framed. A call looks at the head here, once, and hands the width on to all
@@ -32,11 +30,10 @@ pub fn row_width(register: &[u8]) -> usize
     if !((9 <= register.len()) & starts_with(register, b"TRN")) {
         return 0;
     }
-    let width = width_in(le16(register, 3));
-    if register.len() - 9 < used(register) as usize * width {
-        return 0;
+    match width_in(le16(register, 3)) {
+        Some(width) if used(register) as usize * width <= register.len() - 9 => width,
+        _ => 0,
     }
-    width
 }
 
 // No row is left for a new pair: the head can count no more, or the bytes of a row more are not there.
@@ -48,7 +45,7 @@ pub fn full(register: &[u8], width: usize) -> bool
         return false;
     }
     let rows = used(register);
-    (rows == 4294967295) | (register.len() - 9 < (rows as usize + 1) * width)
+    (rows == u32::MAX) | (register.len() - 9 < (rows as usize + 1) * width)
 }
 
 // A row of that number stands in the register and is used.

@@ -10,11 +10,7 @@ pub fn copy_in(bytes: &mut [u8], at: usize, part: &[u8])
     requires { at + length part.now ≤ length bytes.old }
     ensures { bytes.new ≡ sets bytes.old at part.now }
 {
-    let mut i = 0;
-    while i < part.len() {
-        bytes[at + i] = part[i];
-        i += 1;
-    }
+    bytes[at..at + part.len()].copy_from_slice(part);
 }
 
 // An entity of over 20 bytes and a reference of over 52 are cut; shorter ones are filled with zeros. The length byte is

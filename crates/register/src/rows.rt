@@ -1,8 +1,8 @@
 // Where a pair stands in a register, and how.
-ghost use Rattle.std.specs.Prelude.{◌≡◌, ◌⊎◌, ◌+◌, ◌≤◌, length, Some};
+ghost use Rattle.std.specs.Prelude.{◌≡◌, ◌⊎◌, ◌+◌, ◌≤◌, length};
 ghost use Rattle.text.specs.Stride.{Rowed, next_row};
 ghost use Rattle.register.specs.Frame.{row_width};
-ghost use Rattle.register.specs.Rows.{first_row, standing, standing_at};
+ghost use Rattle.register.specs.Rows.{state_byte, state_of, first_row, standing, standing_at};
 
 use crate::frame::{is_used, row_width, used};
 use text::{begins_with, byte_at, head, next_row, rest, word};
@@ -14,19 +14,35 @@ pub enum Standing {
     Cancelled,
 }
 
+// The state of a row whose pair stands so, as a byte.
+pub fn state_byte(standing: Standing) -> u8
+    ensures { result ≡ state_byte standing }
+{
+    match standing {
+        Standing::Absent => 0,
+        Standing::Live => 1,
+        Standing::Cancelled => 2,
+    }
+}
+
+fn state_of(state: u8) -> Standing
+    ensures { result ≡ state_of state }
+{
+    if state == state_byte(Standing::Live) {
+        return Standing::Live;
+    }
+    Standing::Cancelled
+}
+
 // Where the word of a pair stands by which other pairs' rows are passed: the last eight bytes of the reference, in which references mostly
 // differ, or the first eight where it is shorter.
 fn word_place(pair: &[u8; 73]) -> usize
     ensures { result + 8 ≤ 73 }
 {
-    let length = byte_at(pair, 20) as usize;
-    if length < 8 {
-        return 21;
+    match pair[20] {
+        length @ 8..=52 => 13 + length as usize,
+        _ => 21,
     }
-    if 52 < length {
-        return 21;
-    }
-    13 + length
 }
 
 // The next row that has the word. The widths are named, since the compiler makes less of each row that is passed where it knows
@@ -63,27 +79,16 @@ pub fn find(register: &[u8], width: usize, pair: &[u8; 73]) -> Option<usize>
     None
 }
 
-fn standing_in(register: &[u8], width: usize, row: usize) -> Standing
-    requires { width ≡ row_width register.now }
-    ensures { result ≡ standing_at register.now (Some row) }
-{
-    if !is_used(register, width, row) {
-        return Standing::Absent;
-    }
-    if byte_at(register, 9 + row * width + 73) == 1 {
-        return Standing::Live;
-    }
-    Standing::Cancelled
-}
-
 // How a pair stands whose place is known already: no row but that one is read.
 pub fn standing_at(register: &[u8], width: usize, found: Option<usize>) -> Standing
     requires { width ≡ row_width register.now }
     ensures { result ≡ standing_at register.now found }
 {
     match found {
-        Some(row) => standing_in(register, width, row),
-        None => Standing::Absent,
+        Some(row) if is_used(register, width, row) => {
+            state_of(byte_at(register, 9 + row * width + 73))
+        }
+        _ => Standing::Absent,
     }
 }
 

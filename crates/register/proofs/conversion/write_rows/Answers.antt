@@ -1,33 +1,18 @@
-use Rattle.register.proofs.ConversionLaws.{written_start, written_length, cut_length, written_on, written_end}
+use Rattle.register.specs.Conversion.{undated}
+use Rattle.register.proofs.ConversionLaws.{cut_length, written_on}
+use borrow.Author.Rules.{rules}
 use native.Mathlib.Omega.{arith}
 use Rattle.register.proofs.conversion.write_rows.Goals as goal
 
 pub loop-row-init : goal.loop-row-init
-loop-row-init c = written_start c.requires.0 c.requires.1
+unfolding undated
+loop-row-init c = search rules
 
 pub copy_in-requires : goal.copy_in-requires
-copy_in-requires c = omega (
-  arith,
-  cut_length c.loop-row.invariant (omega arith),
-  written_length c.loop-row.invariant,
-)
+copy_in-requires c = omega (arith, cut_length c.args.from.now c.loop-row.row (omega arith))
 
 pub write_le32-requires : goal.write_le32-requires
-write_le32-requires c = omega (
-  arith,
-  c.copy_in.auto.bytes,
-  written_length c.loop-row.invariant,
-)
+write_le32-requires c = omega (arith, c.copy_in.auto.bytes)
 
 pub loop-row-preserved : goal.loop-row-preserved
-loop-row-preserved c = written_on
-    c.loop-row.invariant
-    (omega arith)
-    c.copy_in.ensures
-    c.write_le32.ensures
-
-pub shape_of-to : goal.shape_of-to
-shape_of-to c = written_length c.loop-row.invariant
-
-pub returns : goal.returns
-returns c = written_end c.loop-row.invariant (omega arith)
+loop-row-preserved c = written_on c.args.from.now c.loop-row.row (omega arith) c.args.to.now c.loop-row.invariant c.copy_in.ensures c.write_le32.ensures

@@ -58,4 +58,4 @@ pub write_le32-requires : goal.write_le32-requires
 write_le32-requires c = omega (arith, value_within (free c.args.width c.args.register.now c.requires c.full.ensures c.if-width-full.false c.used-count.ensures).row, c.copy_in.auto.bytes, c.write_value.auto.register)
 
 pub returns : goal.returns
-returns c = let l : length c.args.pair.now ≡ 73 = search rules in appended_stored c.args.register.now (open_one c.args.width c.args.register.now c.requires c.full.ensures c.if-width-full.false) c.requires c.used-count.ensures c.args.pair.now c.args.state c.args.day l c.copy_in.ensures c.write_value.ensures c.write_le32.ensures
+returns c = let l : length c.args.pair.now ≡ 73 = search rules in appended_stored c.args.register.now (open_one c.args.width c.args.register.now c.requires c.full.ensures c.if-width-full.false) c.requires c.used-count.ensures c.args.pair.now _ c.args.kept.day l c.copy_in.ensures c.write_value.ensures c.write_le32.ensures

@@ -1,4 +1,0 @@
-use Rattle.register.proofs.writes.set_live.Goals as goal
-
-pub returns : goal.returns
-returns c = c.put.ensures
