@@ -1,11 +1,12 @@
 -- What the stores of the code leave.
 use mathlib.Core.Logic.{◌⊎◌, inl, inr}
 use mathlib.Core.Path.{◌≡◌, ◌∙◌, sym, ap}
-use mathlib.Core.Bool.{true, false, not, ◌&&◌}
+use mathlib.Core.Bool.{Bool, true, false, not, ◌&&◌, ◌||◌}
 use mathlib.Core.List.{List, [], ◌∷◌, ◌++◌}
 use Prim.Native.Nat.{ℕ, suc, ◌+◌, ◌*◌, ◌-◌, ◌≤◌, ◌<◌}
 use native.Mathlib.Omega.{arith}
 use borrow.Author.Tests.{not-true}
+use lib.Dec.{eqb}
 use lib.ListN.{length, set}
 use lib.Seq.{sets}
 use Rattle.text.proofs.Bools.{and_left, and_right}
@@ -13,16 +14,9 @@ use Rattle.register.specs.Frame.{day_width, used, capacity, framed, full, is_use
 use Rattle.register.specs.Written.{little_bytes, restated, appended}
 use Rattle.register.proofs.Stores.{sets_append}
 use Rattle.register.proofs.FrameLaws.{framed_is, capacity_small}
-use Rattle.register.proofs.WidthLaws.{narrow, RowAt, row_at}
+use Rattle.register.proofs.WidthLaws.{narrow, RowAt, row_at, told_open}
 use Rattle.register.proofs.RowLaws.{used_row}
 use Rattle.register.proofs.PutLaws.{not_full}
-
-pub four_stored : (l : List ℕ) (at a b c d : ℕ) → set (set (set (set l at a) (at + 1) b) (at + 2) c) (at + 3) d ≡ sets l at (a ∷ b ∷ c ∷ d ∷ [])
-four_stored l at a b c d =
-    let one : at + 1 ≡ suc at = omega arith in
-    let two : at + 2 ≡ suc (suc at) = omega arith in
-    let three : at + 3 ≡ suc (suc (suc at)) = omega arith in
-    rw (one, two, three)
 
 -- what a row keeps, at its place: the state, and where rows have 78 bytes the day
 module _ {w : ℕ} (l : List ℕ) (at state day : ℕ) where
@@ -93,3 +87,20 @@ module _ (register : List ℕ) where
         (λ l. sets l 5 (little_bytes 4 (count + 1)))
         (whole ∙ (λ i. sets register (room.row.place_is i) (pair ++ (state ∷ little_bytes (room.row.day_is i) day))))
         ∙ rw (e, c)
+
+-- where the code goes on to write, the register is framed and not full
+pub open_row :
+    (register : List ℕ) {w : ℕ} {filled : Bool} → w ≡ row_width register → filled ≡ full register → (eqb w 0 || filled) ≡ false
+    → (framed register && not (full register)) ≡ true
+open_row register {w} told fills h = sym (told_open register told) ∙ ap (λ f. not (eqb w 0 || f)) (sym fills) ∙ ap not h
+
+pub free_row :
+    {w : ℕ} {register : List ℕ} {filled : Bool} {count : ℕ} → w ≡ row_width register → filled ≡ full register → (eqb w 0 || filled) ≡ false → count ≡ used register
+    → Room w register count
+free_row {register = register} told fills h counts = room register (open_row register told fills h) told counts
+
+-- and elsewhere it stays as it is
+pub no_row :
+    (register pair value : List ℕ) {w : ℕ} {filled : Bool} → w ≡ row_width register → filled ≡ full register → (eqb w 0 || filled) ≡ true
+    → register ≡ appended register pair value
+no_row register pair value {w} told fills h = appended_not register pair value (sym (told_open register told) ∙ ap (λ f. not (eqb w 0 || f)) (sym fills) ∙ ap not h)

@@ -1,17 +1,16 @@
 -- Flags as words: how large, which bit is which flag, how many are set.
-use mathlib.Core.Path.{◌≡◌, ◌∙◌, refl}
+use mathlib.Core.Path.{◌≡◌, ◌∙◌, refl, sym, ap}
 use mathlib.Core.Bool.{Bool, true, false}
-use mathlib.Core.List.{List, [], ◌∷◌}
+use mathlib.Core.List.{List, [], ◌∷◌, ◌++◌, append_assoc, append-nil}
 use Prim.Native.Nat.{ℕ, zero, suc, ◌+◌, ◌*◌, ◌-◌, ◌/◌, ◌%◌, ◌^◌, ◌≤◌, ◌<◌}
 use native.Mathlib.Nat.{zero-div, div-div-eq-div-mul, mul_comm, pow-suc, pow-le-pow_right}
 use native.Mathlib.Omega.{arith}
 use lib.Count.{ones, ones_step}
 use borrow.Author.Tests.{ltb-true, ltb-false}
 use lib.Dec.{ltb, lit<}
-use lib.ListN.{length, get_or, take, drop, length-drop}
-use lib.Seq.{drop-length, get_or-take, get_or-drop}
+use lib.ListN.{length, get_or, take, drop, length-drop, length-append}
+use lib.Seq.{get_or-take, get_or-drop}
 use Rattle.text.proofs.Bools.{by_test}
-use Rattle.text.proofs.Lists.{rest_at}
 use Rattle.verdict.specs.Verdict.{bit, word_of, words}
 use Rattle.verdict.specs.Counted.{flags_set, bits_set, bit_at}
 
@@ -27,28 +26,35 @@ word_under (flag ∷ flags) = rw (pow-suc 2 (length flags)) (omega (arith, bit_s
 pub word_below : (k : ℕ) (flags : List Bool) → length flags ≤ k → word_of flags < 2 ^ k
 word_below k flags h = omega (arith, word_under flags, pow-le-pow_right {n = 2} (lit< tt) h)
 
--- w is the word of the flags from place i on
-pub record WordSoFar (flags : List Bool) (w i : ℕ) : Type 0 where
-  pub within : i ≤ length flags
-  pub value : w ≡ word_of (drop i flags)
+-- w is the word of the flags that come after those that are left
+pub record WordSoFar (flags left : List Bool) (w : ℕ) : Type 0 where
+  pub done : List Bool
+  pub whole : flags ≡ left ++ done
+  pub value : w ≡ word_of done
 
-pub word_start : {flags : List Bool} → WordSoFar flags 0 (length flags)
+none_left : (l : List Bool) → length l ≡ 0 → l ≡ []
+none_left [] e = refl
+none_left (flag ∷ l) e = absurd (omega arith)
+
+pub word_start : (flags : List Bool) → WordSoFar flags flags 0
 unfolding word_of
-word_start {flags} = record { within = omega arith; value = rw (drop-length flags) }
+word_start flags = record { done = []; whole = sym (append-nil flags); value = refl }
 
-module _ {flags : List Bool} {w i : ℕ} (so_far : WordSoFar flags w i) where
-  pub word_on : 0 < i → WordSoFar flags (w * 2 + bit (get_or flags (i - 1) false)) (i - 1)
-  unfolding word_of
-  word_on h =
-      let k : i - 1 < length flags = omega arith in
-      let e : i - 1 + 1 ≡ i = omega arith in
-      record { within = omega arith; value = rw (rest_at false flags (i - 1) k, e) (omega (arith, so_far.value)) }
+module _ {flags left : List Bool} {w : ℕ} (so_far : WordSoFar flags left w) where
+  pub word_end : length left ≡ 0 → w ≡ word_of flags
+  word_end e = so_far.value ∙ ap word_of (sym (so_far.whole ∙ ap (λ l. l ++ so_far.done) (none_left left e)))
 
-  pub word_end : i ≤ 0 → w ≡ word_of flags
-  word_end h = let e : i ≡ 0 = omega arith in rw e at so_far.value
+pub word_on : (left : List Bool) (flag : Bool) {flags before : List Bool} {w : ℕ} → WordSoFar flags before w → before ≡ left ++ (flag ∷ []) → WordSoFar flags left (w * 2 + bit flag)
+unfolding word_of
+word_on left flag so_far e =
+    record {
+      done = flag ∷ so_far.done;
+      whole = so_far.whole ∙ ap (λ l. l ++ so_far.done) e ∙ append_assoc left (flag ∷ []) so_far.done;
+      value = omega (arith, so_far.value);
+    }
 
-pub word_fits : {flags : List Bool} {w i : ℕ} → WordSoFar flags w i → length flags ≤ 64 → w < 2 ^ 64
-word_fits {flags} {w} {i} so_far h = rw so_far.value (word_below 64 (drop i flags) (rw length-drop (omega arith)))
+pub word_fits : {flags left : List Bool} {w : ℕ} → WordSoFar flags left w → length flags ≤ 64 → w < 2 ^ 64
+word_fits {flags} {left} {w} so_far h = rw so_far.value (word_below 64 so_far.done (omega (arith, ap length so_far.whole, length-append left so_far.done)))
 
 -- bit j of a word is flag j; past the flags every bit is 0
 pub word_digit : (flags : List Bool) (j : ℕ) → word_of flags / 2 ^ j % 2 ≡ bit (get_or flags j false)

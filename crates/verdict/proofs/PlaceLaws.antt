@@ -3,11 +3,11 @@ use mathlib.Core.Path.{◌≡◌, ◌∙◌, sym, refl, ap}
 use mathlib.Core.Bool.{Bool, false}
 use mathlib.Core.List.{List, [], ◌++◌, append_assoc}
 use Prim.Native.Nat.{ℕ, zero, suc, ◌+◌, ◌-◌, ◌≤◌, ◌<◌}
-use native.Mathlib.Numerals.{add-one}
 use native.Mathlib.Omega.{arith}
 use borrow.Author.Tests.{le-leb, lt-leb}
-use lib.ListN.{length, get_or, take, drop, set, replicate, length-append, length-drop, take-append-drop}
-use lib.Seq.{take-length, length-take-le, drop-drop, take_at, drop_at, paste, paste-zero, paste-suc}
+use borrow.Rule.Slice.PartMut.{put_mid}
+use lib.ListN.{length, take, drop, replicate, length-append, length-drop, take-append-drop}
+use lib.Seq.{length-take-le, drop-drop, take_at, drop_at}
 use Rattle.verdict.specs.Codes.{code_count}
 use Rattle.verdict.specs.Findings.{put}
 
@@ -15,39 +15,15 @@ pub put_past : (flags : List Bool) (start : ℕ) (group : List Bool) → code_co
 unfolding put
 put_past flags start group h = rw (lt-leb (start + length group) code_count h)
 
-pub put_within : (flags : List Bool) (start : ℕ) (group : List Bool) → start + length group ≤ code_count
-    → paste flags start group (length group) ≡ put flags start group
-unfolding put
-put_within flags start group h = rw (le-leb (start + length group) code_count h, take-length group)
-
 -- what stands before the group and behind it stays
 pub put_amid : (flags : List Bool) (start : ℕ) (group : List Bool) {n : ℕ} → length group ≡ n → start + n ≤ code_count
     → put flags start group ≡ take start flags ++ (group ++ drop (start + n) flags)
 unfolding put
 put_amid flags start group {n} e h = rw (e, le-leb _ code_count h) (append_assoc (take start flags) group (drop (start + n) flags))
 
--- the first i flags of the group are in place
-pub record PlacedSoFar (flags : List Bool) (start : ℕ) (group placed : List Bool) (i : ℕ) : Type 0 where
-  pub long : length flags ≡ code_count
-  pub fits : start + length group ≤ code_count
-  pub within : i ≤ length group
-  pub value : placed ≡ paste flags start group i
-
-pub placed_start : {flags : List Bool} {start : ℕ} {group : List Bool} → length flags ≡ code_count → start + length group ≤ code_count
-    → PlacedSoFar flags start group flags 0
-placed_start {flags} {start} {group} l h = record { long = l; fits = h; within = omega arith; value = paste-zero flags start group }
-
-module _ {flags : List Bool} {start : ℕ} {group placed : List Bool} {i : ℕ} (so_far : PlacedSoFar flags start group placed i) where
-  pub placed_on : i < length group → PlacedSoFar flags start group (set placed (start + i) (get_or group i false)) (i + 1)
-  placed_on h = record {
-    long = so_far.long;
-    fits = so_far.fits;
-    within = omega arith;
-    value = rw (so_far.value, add-one) (paste-suc flags start group i false (omega arith) h);
-  }
-
-  pub placed_end : length group ≤ i → placed ≡ put flags start group
-  placed_end h = let e : i ≡ length group = omega arith in so_far.value ∙ rw e (put_within flags start group so_far.fits)
+-- what a write to the flags from `start` up to the group's end leaves
+pub put_mid_is : (flags group : List Bool) (start k : ℕ) → k ≡ length group → start + length group ≤ code_count → put_mid start k flags group ≡ put flags start group
+put_mid_is flags group start k e h = rw (e, put_amid flags start group refl h) (λ i. take start flags ++ (group ++ drop-drop (length group) start flags i))
 
 -- flags that are not set, less some
 fewer_unset : (k n : ℕ) → drop k (replicate n false) ≡ replicate (n - k) false

@@ -207,41 +207,41 @@ bits_three : (words : List ℕ) → length words ≡ 3 → bits_set words ≡ on
 bits_three words h = ap bits_set (three words h) ∙ omega arith
 
 -- a buffer without room stays
-pub listed_not : (words entries : List ℕ) {count : ℕ} → length words ≡ 3 → count ≡ ones_in words → length entries < count → entries ≡ listed_by words entries
+pub listed_not : (words entries : List ℕ) {count : ℕ} → count ≡ bits_set words → length entries < count → entries ≡ listed_by words entries
 unfolding listed_by
-listed_not words entries h counted short = rw (lt-ltb (length entries) (bits_set words) (omega (arith, bits_three words h)))
+listed_not words entries counted short = rw (lt-ltb (length entries) (bits_set words) (omega (arith, counted)))
 
 -- there is room for each word's codes behind those of the words before it
-module _ (words : List ℕ) {n count : ℕ} {before one : List ℕ} (counted : count ≡ ones_in words) (room : count ≤ length before)
+module _ (words : List ℕ) (all : length words ≡ 3) {n count : ℕ} {before one : List ℕ} (counted : count ≡ bits_set words) (room : count ≤ length before)
     (first : Listed (pick (take 64 codes) (bits_of 64 (get_or words 0 0))) 0 before n one) where
   few : length (pick (take 64 codes) (bits_of 64 (get_or words 0 0))) ≤ ones (get_or words 0 0)
   few = pick_few 64 (take 64 codes) (get_or words 0 0)
 
   pub second_room : n + ones (get_or words 1 0) ≤ length one
-  second_room = omega (arith, first.behind, few, listed_length first (omega (arith, few)))
+  second_room = omega (arith, first.behind, few, bits_three words all, listed_length first (omega (arith, few, bits_three words all)))
 
   module _ {m : ℕ} {two : List ℕ} (second : Listed (pick (take 64 (drop 64 codes)) (bits_of 64 (get_or words 1 0))) n one m two) where
     few_more : length (pick (take 64 (drop 64 codes)) (bits_of 64 (get_or words 1 0))) ≤ ones (get_or words 1 0)
     few_more = pick_few 64 (take 64 (drop 64 codes)) (get_or words 1 0)
 
     both : Listed (pick (take 64 codes) (bits_of 64 (get_or words 0 0)) ++ pick (take 64 (drop 64 codes)) (bits_of 64 (get_or words 1 0))) 0 before m two
-    both = listed_both first second (omega (arith, few, few_more))
+    both = listed_both first second (omega (arith, few, few_more, bits_three words all))
 
     size : length (pick (take 64 codes) (bits_of 64 (get_or words 0 0)) ++ pick (take 64 (drop 64 codes)) (bits_of 64 (get_or words 1 0))) ≤ ones (get_or words 0 0) + ones (get_or words 1 0)
     size = rw length-append (omega (arith, few, few_more))
 
     pub third_room : m + ones (get_or words 2 0) ≤ length two
-    third_room = omega (arith, both.behind, size, listed_length both (omega (arith, size)))
+    third_room = omega (arith, both.behind, size, bits_three words all, listed_length both (omega (arith, size, bits_three words all)))
 
     pub three_listed : {end : ℕ} {listed : List ℕ} → Listed (pick (drop 64 (drop 64 codes)) (bits_of 64 (get_or words 2 0))) m two end listed
-        → length words ≡ 3 → listed ≡ listed_by words before
-    three_listed third h =
+        → listed ≡ listed_by words before
+    three_listed third =
         let last : length (pick (drop 64 (drop 64 codes)) (bits_of 64 (get_or words 2 0))) ≤ ones (get_or words 2 0) = pick_few 64 (drop 64 (drop 64 codes)) (get_or words 2 0) in
-        listed_all (listed_both both third (omega (arith, size, last)))
+        listed_all (listed_both both third (omega (arith, size, last, bits_three words all)))
         ∙ ap (λ (l : List ℕ). over l before)
         (append_assoc (pick (take 64 codes) (bits_of 64 (get_or words 0 0))) (pick (take 64 (drop 64 codes)) (bits_of 64 (get_or words 1 0))) (pick (drop 64 (drop 64 codes)) (bits_of 64 (get_or words 2 0)))
-        ∙ sym (words_listed words h))
-        ∙ listed_over words before (omega (arith, bits_three words h))
+        ∙ sym (words_listed words all))
+        ∙ listed_over words before (omega arith)
 
 length_take_most : (n : ℕ) (l : List Bool) → length (take n l) ≤ n
 length_take_most zero l = omega arith

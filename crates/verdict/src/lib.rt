@@ -7,6 +7,7 @@ ghost use Rattle.std.specs.Prelude.{◌≡◌, ◌+◌, ◌≤◌, length};
 ghost use Rattle.std.specs.Int.Count.{ones};
 ghost use Rattle.verdict.specs.Codes.{entries_needed};
 ghost use Rattle.verdict.specs.Verdict.{word_of, pick, verdict_of, refused_by};
+ghost use Rattle.verdict.specs.Counted.{bits_set};
 ghost use Rattle.verdict.specs.Findings.{put};
 ghost use Rattle.verdict.specs.Bits.{bits_of, listed_by, Listed};
 
@@ -16,7 +17,7 @@ use crate::codes::CODES;
 pub use codes::{BASE_COUNT, CODE_COUNT, RULE_COUNT};
 
 #[repr(C)]
-#[derive(Clone, Copy)]
+#[derive(Clone, Copy, PartialEq, Eq)]
 pub struct Verdict {
     // 0, or the number of a refusal
     pub answer: u16,
@@ -32,32 +33,31 @@ fn word(flags: &[bool]) -> u64
     ensures { result ≡ word_of flags.now }
 {
     let mut w: u64 = 0;
-    let mut i = flags.len();
-    while 0 < i {
-        i -= 1;
-        w = w * 2 + (flags[i] as u64);
+    for &flag in flags.iter().rev() {
+        w = w * 2 + flag as u64;
     }
     w
 }
 
-fn ones_of(first: u64, second: u64, third: u64) -> u16
-    ensures { result ≡ ones first + ones second + ones third }
+fn ones_of(words: [u64; 3]) -> u16
+    ensures { result ≡ bits_set words }
 {
-    (u64::count_ones(first) + u64::count_ones(second) + u64::count_ones(third)) as u16
+    (words[0].count_ones() + words[1].count_ones() + words[2].count_ones()) as u16
 }
 
 // The verdict on a line that is not refused. The count is taken from the words, so that it is how many bits are set.
 pub fn judged(found: &[bool; CODE_COUNT]) -> Verdict
     ensures { result ≡ verdict_of found.now }
 {
-    let all = &found[..];
-    let first = word(&all[0..64]);
-    let second = word(&all[64..128]);
-    let third = word(&all[128..]);
+    let words = [
+        word(&found[..64]),
+        word(&found[64..128]),
+        word(&found[128..]),
+    ];
     Verdict {
         answer: 0,
-        count: ones_of(first, second, third),
-        words: [first, second, third],
+        count: ones_of(words),
+        words,
     }
 }
 
@@ -65,12 +65,10 @@ pub fn judged(found: &[bool; CODE_COUNT]) -> Verdict
 pub fn entries_needed(polish: bool) -> usize
     ensures { result ≡ entries_needed polish }
 {
-    if polish {
-        return CODE_COUNT;
-    }
-    BASE_COUNT
+    if polish { CODE_COUNT } else { BASE_COUNT }
 }
 
+#[tactic(auto, unfolding(crate::specs::Verdict::refused_by))]
 pub fn refused(no: u16) -> Verdict
     ensures { result ≡ refused_by no }
 {
@@ -90,11 +88,11 @@ fn list_bits(table: &[u16], word: u64, findings: &mut [u16], from: usize) -> usi
     let mut n = from;
     let mut left = word;
     while left != 0 {
-        let lowest = u64::trailing_zeros(left);
-        if table.len() <= lowest as usize {
+        let lowest = left.trailing_zeros() as usize;
+        if table.len() <= lowest {
             return n;
         }
-        findings[n] = table[lowest as usize];
+        findings[n] = table[lowest];
         n += 1;
         left -= 1 << lowest;
     }
@@ -106,31 +104,21 @@ fn list_bits(table: &[u16], word: u64, findings: &mut [u16], from: usize) -> usi
 pub fn list_by_words(words: [u64; 3], findings: &mut [u16])
     ensures { findings.new ≡ listed_by words findings.old }
 {
-    if findings.len() < ones_of(words[0], words[1], words[2]) as usize {
+    if findings.len() < ones_of(words) as usize {
         return;
     }
-    let codes = CODES;
-    let table = &codes[..];
-    let first = list_bits(&table[0..64], words[0], findings, 0);
-    let second = list_bits(&table[64..128], words[1], findings, first);
-    list_bits(&table[128..], words[2], findings, second);
+    let first = list_bits(&CODES[..64], words[0], findings, 0);
+    let second = list_bits(&CODES[64..128], words[1], findings, first);
+    list_bits(&CODES[128..], words[2], findings, second);
 }
 
 // A group of flags in place of those from `at` on; a group that goes past the last code changes none.
 pub fn place(base: [bool; CODE_COUNT], at: usize, group: &[bool]) -> [bool; CODE_COUNT]
     ensures { result ≡ put base at group.now }
 {
-    if CODE_COUNT < at {
-        return base;
-    }
-    if CODE_COUNT - at < group.len() {
-        return base;
-    }
     let mut found = base;
-    let mut i = 0;
-    while i < group.len() {
-        found[at + i] = group[i];
-        i += 1;
+    if at <= CODE_COUNT && group.len() <= CODE_COUNT - at {
+        found[at..at + group.len()].copy_from_slice(group);
     }
     found
 }

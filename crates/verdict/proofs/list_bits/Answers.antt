@@ -34,14 +34,8 @@ overflow_cast-lowest c = omega (arith, trailing_le 64 c.loop-left.left)
 pub shape_of-findings-then-table-lowest : goal.shape_of-findings-then-table-lowest
 shape_of-findings-then-table-lowest c = c.loop-left.invariant.length_is
 
-pub overflow_cast-findings : goal.overflow_cast-findings
-overflow_cast-findings c = omega (arith, trailing_le 64 c.loop-left.left)
-
 pub offset_bounds-findings-n : goal.offset_bounds-findings-n
 offset_bounds-findings-n c = omega (arith, bit_room c.loop-left.invariant c.requires (omega arith))
-
-pub overflow_cast-left : goal.overflow_cast-left
-overflow_cast-left c = omega (arith, trailing_le 64 c.loop-left.left)
 
 pub overflow_shl-left : goal.overflow_shl-left
 overflow_shl-left c = omega (arith, c.requires)

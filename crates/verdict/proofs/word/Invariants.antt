@@ -1,8 +1,6 @@
+use Rattle.std.specs.Slice.Iter.{iter_rest}
 use Rattle.verdict.proofs.BitLaws.{WordSoFar}
 use Rattle.verdict.proofs.word.Given as goal
 
-abbrev pub invariant-loop-i : goal.invariant-loop-i
-invariant-loop-i l = WordSoFar l.flags l.w l.i
-
-abbrev pub decreases-loop-i : goal.decreases-loop-i
-decreases-loop-i l = l.i
+abbrev pub invariant-loop-flag : goal.invariant-loop-flag
+invariant-loop-flag l = WordSoFar l.flags (iter_rest l.flag-iterator.iter) l.w

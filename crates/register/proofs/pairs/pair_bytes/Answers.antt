@@ -3,9 +3,6 @@ use Rattle.register.proofs.PairLaws.{cut_short, pair_built}
 use native.Mathlib.Omega.{arith}
 use Rattle.register.proofs.pairs.pair_bytes.Goals as goal
 
-pub copy_in-requires : goal.copy_in-requires
-copy_in-requires c = omega (arith, cut_short 20 c.args.entity.now c.head.ensures)
-
 pub overflow_cast-pair : goal.overflow_cast-pair
 overflow_cast-pair c = omega (arith, cut_short 52 c.args.reference.now c.head-cut.ensures)
 

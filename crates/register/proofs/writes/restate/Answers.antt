@@ -14,7 +14,7 @@ pub overflow_add-row-then-is_used : goal.overflow_add-row-then-is_used
 overflow_add-row-then-is_used c = omega (arith, value_within (tested_row c.requires c.is_used.ensures c.if-is_used.true))
 
 pub write_value-requires : goal.write_value-requires
-write_value-requires c = let row = tested_row c.requires c.is_used.ensures c.if-is_used.true in (row.known, value_within row)
+write_value-requires c = let row = tested_row c.requires c.is_used.ensures c.if-is_used.true in (row.known, omega (arith, value_within row))
 
 pub returns-then-is_used : goal.returns-then-is_used
 returns-then-is_used c = c.write_value.ensures ∙ restated_stored c.args.register.now c.args.row _ c.args.kept.day c.requires (sym c.is_used.ensures ∙ c.if-is_used.true)
