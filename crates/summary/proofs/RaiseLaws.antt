@@ -10,8 +10,7 @@ use lib.Pow.{pow_pos}
 use lib.ListN.{length, get_or, set, replicate, length-set, length-append}
 use Rattle.verdict.specs.Bits.{bits_of, flags_in}
 use Rattle.verdict.proofs.WordLaws.{odd_or_even, one_bit, bits_length, three}
-use Rattle.summary.specs.Counting.{up, stuck, raised, any_stuck, raised_of, Raising}
-use Rattle.summary.specs.declared.Raised.{Raised}
+use Rattle.summary.specs.Counting.{up, stuck, raised, any_stuck, Raising}
 
 -- no flag of the first n is set
 abbrev pub Clear : ℕ → List Bool → Type 0
@@ -234,9 +233,9 @@ module _ (words : List ℕ) (all : length words ≡ 3) {before one two after : L
   by_words : Raising ((bits 0 ++ bits 1) ++ bits 2) before ((first || second) || third) after
   by_words = both 128 (bits 2) two_words (both 64 (bits 1) (bits_length 64 (get_or words 0 0)) r₁ r₂) r₃
 
-  pub words_raised : ◌≡◌ {A = Raised} (record { counters = after; stuck = (first || second) || third }) (raised_of (flags_in words) before)
+  pub words_raised : Raising (flags_in words) before ((first || second) || third) after
   words_raised =
-      λ i. record {
-        counters = (by_words.risen ∙ ap (λ (f : List Bool). raised f before) flags_are) i;
-        stuck = (by_words.told ∙ ap (λ (f : List Bool). any_stuck f before) flags_are) i;
+      record {
+        told = by_words.told ∙ ap (λ (f : List Bool). any_stuck f before) flags_are;
+        risen = by_words.risen ∙ ap (λ (f : List Bool). raised f before) flags_are;
       }

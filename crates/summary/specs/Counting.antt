@@ -6,7 +6,6 @@ use Rattle.summary.specs.declared.Kind.{Kind}
 use Rattle.summary.specs.declared.Kind.TheVariants.{New, Cancelled, Found, Full, Refused}
 use Rattle.summary.specs.declared.Line.{Line}
 use Rattle.summary.specs.declared.Record.{Record}
-use Rattle.summary.specs.declared.Raised.{Raised}
 use Rattle.summary.specs.declared.Tally.{Tally}
 
 abbrev pub top : ℕ
@@ -30,9 +29,6 @@ unfoldable pub any_stuck : List Bool → List ℕ → Bool
 any_stuck [] counters = false
 any_stuck (flag ∷ flags) [] = false
 any_stuck (flag ∷ flags) (n ∷ counters) = stuck flag n || any_stuck flags counters
-
-abbrev pub raised_of : List Bool → List ℕ → Raised
-raised_of flags counters = record { counters = raised flags counters; stuck = any_stuck flags counters }
 
 -- what a call leaves of the counters, and says
 pub record Raising (flags : List Bool) (before : List ℕ) (says : Bool) (after : List ℕ) : Type 0 where

@@ -4,11 +4,11 @@
 // chooses stands here, on plain data; the exported function, which finds the record and puts it back, is in capi.
 #![tactic(auto)]
 
-ghost use Rattle.std.specs.Prelude.{◌≡◌, false, ◌++◌, ◌≤◌, ◌<◌, length, get_or, replicate};
+ghost use Rattle.std.specs.Prelude.{◌≡◌, true, false, ◌++◌, ◌≤◌, ◌<◌, length, get_or, replicate};
 ghost use Rattle.cells.specs.Cells.{cell};
 ghost use Rattle.verdict.specs.Codes.{codes, code_count};
 ghost use Rattle.verdict.specs.Bits.{bits_of, flags_in};
-ghost use Rattle.summary.specs.Counting.{up, stuck, heading, Raising, raised_of, counted_of, blank, fresh, entered_of};
+ghost use Rattle.summary.specs.Counting.{up, stuck, Raising, counted_of, blank, fresh, entered_of};
 ghost use Rattle.summary.specs.Judged.{names, entity_in, kind_of, of_no_entity, line_of};
 ghost use Rattle.summary.specs.Noting.{reach_of, stops_at};
 
@@ -18,10 +18,8 @@ use verdict::{CODE_COUNT, RULE_COUNT, Verdict};
 // No record behind this many is used.
 pub const MOST_RECORDS: usize = 256;
 
-const TOP: u32 = 4294967295;
-
 // A line counts under one of five headings.
-#[derive(Clone, Copy)]
+#[derive(Clone, Copy, PartialEq, Eq)]
 pub enum Kind {
     // accepted
     New,
@@ -70,22 +68,15 @@ pub struct Tally {
     pub stuck: bool,
 }
 
-#[derive(Clone, Copy)]
-pub struct Raised {
-    pub counters: [u32; CODE_COUNT],
-    pub stuck: bool,
-}
-
-fn up_if(b: bool, n: u32) -> u32
-    ensures { result ≡ up b n }
+// One more line for a counter; whether it was at its top, where it stays.
+#[tactic(auto, unfolding(crate::specs::Counting::up, crate::specs::Counting::stuck))]
+fn raise(counter: &mut u32) -> bool
+    ensures risen { counter.new ≡ up true counter.old }
+    ensures told { result ≡ stuck true counter.old }
 {
-    if b & (n < TOP) { n + 1 } else { n }
-}
-
-fn is_stuck(b: bool, n: u32) -> bool
-    ensures { result ≡ stuck b n }
-{
-    b & !(n < TOP)
+    let stuck = *counter == u32::MAX;
+    *counter = counter.saturating_add(1);
+    stuck
 }
 
 // The counters from `from` on whose bits are set in a word, the lowest bit first: a line has few codes, and where it has none no
@@ -97,70 +88,41 @@ fn raise_bits(counters: &mut [u32], from: usize, word: u64) -> bool
     let mut stuck = false;
     let mut left = word;
     while left != 0 {
-        let lowest = u64::trailing_zeros(left) as usize;
+        let lowest = left.trailing_zeros() as usize;
         if counters.len() - from <= lowest {
             return stuck;
         }
-        let n = counters[from + lowest];
-        stuck = stuck | is_stuck(true, n);
-        counters[from + lowest] = up_if(true, n);
+        stuck |= raise(&mut counters[from + lowest]);
         left -= 1 << lowest;
     }
     stuck
 }
 
-fn raise_codes(old: [u32; CODE_COUNT], words: [u64; 3]) -> Raised
-    ensures { result ≡ raised_of (flags_in words) old }
+fn raise_codes(counters: &mut [u32; CODE_COUNT], words: [u64; 3]) -> bool
+    ensures { Raising (flags_in words) counters.old result counters.new }
 {
-    let mut counters = old;
-    let first = raise_bits(&mut counters, 0, words[0]);
-    let second = raise_bits(&mut counters, 64, words[1]);
-    let third = raise_bits(&mut counters, 128, words[2]);
-    Raised {
-        counters,
-        stuck: first | second | third,
-    }
-}
-
-fn heading_of(kind: Kind) -> u32
-    ensures { result ≡ heading kind }
-{
-    match kind {
-        Kind::New => 0,
-        Kind::Cancelled => 1,
-        Kind::Found => 2,
-        Kind::Full => 3,
-        Kind::Refused => 4,
-    }
+    let first = raise_bits(counters, 0, words[0]);
+    let second = raise_bits(counters, 64, words[1]);
+    let third = raise_bits(counters, 128, words[2]);
+    first | second | third
 }
 
 // A record with the line in it, be it an entity's or the common one.
 pub fn counted(r: Record, l: Line) -> Tally
     ensures { result ≡ counted_of r l }
 {
-    let entity = r.entity;
-    let old = r.codes;
-    let words = l.words;
-    let raised = raise_codes(old, words);
-    let codes = raised.counters;
-    let kind = l.kind;
-    let under = heading_of(kind);
+    let mut after = r;
+    let code_stuck = raise_codes(&mut after.codes, l.words);
+    let heading_stuck = match l.kind {
+        Kind::New => raise(&mut after.accepted),
+        Kind::Cancelled => raise(&mut after.cancelled),
+        Kind::Found => raise(&mut after.found),
+        Kind::Full => raise(&mut after.full),
+        Kind::Refused => raise(&mut after.refused),
+    };
     Tally {
-        after: Record {
-            entity,
-            accepted: up_if(under == 0, r.accepted),
-            cancelled: up_if(under == 1, r.cancelled),
-            found: up_if(under == 2, r.found),
-            full: up_if(under == 3, r.full),
-            refused: up_if(under == 4, r.refused),
-            codes,
-        },
-        stuck: is_stuck(under == 0, r.accepted)
-            | is_stuck(under == 1, r.cancelled)
-            | is_stuck(under == 2, r.found)
-            | is_stuck(under == 3, r.full)
-            | is_stuck(under == 4, r.refused)
-            | raised.stuck,
+        after,
+        stuck: heading_stuck | code_stuck,
     }
 }
 
@@ -171,6 +133,7 @@ fn is_blank(entity: &[u8; 20]) -> bool
 }
 
 // The record of an entity that has no line yet.
+#[tactic(auto, unfolding(crate::specs::Counting::fresh))]
 fn fresh_of(entity: [u8; 20]) -> Record
     ensures { result ≡ fresh entity }
 {
@@ -186,33 +149,30 @@ fn fresh_of(entity: [u8; 20]) -> Record
 }
 
 // The line in the record where the search for its entity stops: a free one is taken, whatever lay in it.
+#[tactic(auto, unfolding(crate::specs::Counting::entered_of))]
 pub fn entered(r: Record, l: Line) -> Tally
     ensures { result ≡ entered_of r l }
 {
-    let name = r.entity;
-    if is_blank(&name) {
-        let entity = l.entity;
-        return counted(fresh_of(entity), l);
+    if is_blank(&r.entity) {
+        return counted(fresh_of(l.entity), l);
     }
     counted(r, l)
 }
 
 // How many records are searched for an entity: none for no entity.
+#[tactic(auto, unfolding(crate::specs::Noting::reach_of))]
 pub fn reach(room: usize, entity: [u8; 20]) -> usize
     ensures { result ≡ reach_of room entity }
 {
     if is_blank(&entity) {
         return 0;
     }
-    if room < MOST_RECORDS {
-        room
-    } else {
-        MOST_RECORDS
-    }
+    room.min(MOST_RECORDS)
 }
 
 // The search for `entity` stops at a record of the entity `name`: it is free, or its own. Of the forms that were counted, this one passes a
 // record in the fewest instructions (docs/PACE.md).
+#[tactic(auto, unfolding(crate::specs::Noting::stops_at))]
 pub fn stops(name: [u8; 20], entity: [u8; 20]) -> bool
     ensures { result ≡ stops_at name entity }
 {
@@ -239,18 +199,14 @@ fn fourth_cell(line: &[u8]) -> &[u8]
 }
 
 // Cell 4 where it has 20 bytes, else none.
+#[tactic(auto, unfolding(crate::specs::Judged::entity_in))]
 fn entity_in(line: &[u8]) -> [u8; 20]
     ensures { result ≡ entity_in line.now }
 {
     let mut entity = [0u8; 20];
     let written = fourth_cell(line);
-    if written.len() != 20 {
-        return entity;
-    }
-    let mut i = 0;
-    while i < 20 {
-        entity[i] = written[i];
-        i += 1;
+    if written.len() == 20 {
+        entity.copy_from_slice(written);
     }
     entity
 }
@@ -263,22 +219,21 @@ fn names_code(words: [u64; 3], j: usize) -> bool
     (words[j / 64] >> (j % 64)) % 2 == 1
 }
 
+#[tactic(auto, unfolding(crate::specs::Judged::kind_of))]
 fn kind_of(answer: u16, count: u16, new: bool) -> Kind
     ensures { result ≡ kind_of answer count «new» }
 {
-    if answer == 11 {
-        return Kind::Full;
+    match answer {
+        0 if count != 0 => Kind::Found,
+        0 if new => Kind::New,
+        0 => Kind::Cancelled,
+        11 => Kind::Full,
+        _ => Kind::Refused,
     }
-    if answer != 0 {
-        return Kind::Refused;
-    }
-    if count != 0 {
-        return Kind::Found;
-    }
-    if new { Kind::New } else { Kind::Cancelled }
 }
 
 // The codes of the forms stand behind those of the rules: 1001 is the first of them, 1004 the fourth.
+#[tactic(auto, unfolding(crate::specs::Judged::of_no_entity))]
 fn of_none(answer: u16, words: [u64; 3]) -> bool
     ensures { result ≡ of_no_entity answer words }
 {
@@ -288,24 +243,20 @@ fn of_none(answer: u16, words: [u64; 3]) -> bool
 }
 
 // What is counted of a line that got the verdict.
+#[tactic(auto, unfolding(crate::specs::Judged::line_of))]
 pub fn judged_line(line: &[u8], verdict: Verdict) -> Line
     ensures { result ≡ line_of line.now verdict }
 {
     let words = verdict.words;
-    let kind = kind_of(
-        verdict.answer,
-        verdict.count,
-        text::same(first_cell(line), b"NEW"),
-    );
-    if of_none(verdict.answer, words) {
-        return Line {
-            entity: [0; 20],
-            kind,
-            words,
-        };
-    }
+    let new = text::same(first_cell(line), b"NEW");
+    let kind = kind_of(verdict.answer, verdict.count, new);
+    let entity = if of_none(verdict.answer, words) {
+        [0; 20]
+    } else {
+        entity_in(line)
+    };
     Line {
-        entity: entity_in(line),
+        entity,
         kind,
         words,
     }

@@ -1,25 +1,16 @@
-use mathlib.Core.Path.{◌∙◌, ap}
+use mathlib.Core.Path.{◌≡◌, ◌∙◌}
 use mathlib.Core.Bool.{◌||◌}
-use lib.Dec.{eqb}
-use Rattle.summary.specs.Counting.{up, stuck, added, stuck_in}
+use Rattle.summary.specs.declared.Tally.{Tally}
+use Rattle.summary.proofs.CountLaws.{under_accepted, under_cancelled, under_found, under_full, under_refused}
 use Rattle.summary.proofs.counted.Goals as goal
+use Rattle.summary.proofs.counted.Goals.{in-New, in-Cancelled, in-Found, in-Full, in-Refused}
 
 pub returns : goal.returns
-unfolding added stuck_in
-returns c = λ i. record {
-  after = record {
-    entity = c.args.r.entity;
-    accepted = (c.up_if.ensures ∙ ap (λ k. up (eqb k 0) c.args.r.accepted) c.heading_of-under.ensures) i;
-    cancelled = (c.up_if-2.ensures ∙ ap (λ k. up (eqb k 1) c.args.r.cancelled) c.heading_of-under.ensures) i;
-    found = (c.up_if-3.ensures ∙ ap (λ k. up (eqb k 2) c.args.r.found) c.heading_of-under.ensures) i;
-    full = (c.up_if-4.ensures ∙ ap (λ k. up (eqb k 3) c.args.r.full) c.heading_of-under.ensures) i;
-    refused = (c.up_if-5.ensures ∙ ap (λ k. up (eqb k 4) c.args.r.refused) c.heading_of-under.ensures) i;
-    codes = (c.raise_codes-raised.ensures i).counters;
-  };
-  stuck = (c.is_stuck.ensures ∙ ap (λ k. stuck (eqb k 0) c.args.r.accepted) c.heading_of-under.ensures) i
-      || (c.is_stuck-2.ensures ∙ ap (λ k. stuck (eqb k 1) c.args.r.cancelled) c.heading_of-under.ensures) i
-      || (c.is_stuck-3.ensures ∙ ap (λ k. stuck (eqb k 2) c.args.r.found) c.heading_of-under.ensures) i
-      || (c.is_stuck-4.ensures ∙ ap (λ k. stuck (eqb k 3) c.args.r.full) c.heading_of-under.ensures) i
-      || (c.is_stuck-5.ensures ∙ ap (λ k. stuck (eqb k 4) c.args.r.refused) c.heading_of-under.ensures) i
-      || (c.raise_codes-raised.ensures i).stuck;
-}
+returns c =
+    elim c.match-l.branch [
+      | in-New w ↦ (λ i. record { after = w.after-is i; stuck = w.heading_stuck-is i || c.raise_codes-code_stuck.result }) ∙ under_accepted c.args.r c.args.l c.raise_codes-code_stuck.ensures w.in-New.is w.raise-heading_stuck.ensures.risen w.raise-heading_stuck.ensures.told
+      | in-Cancelled w ↦ (λ i. record { after = w.after-is i; stuck = w.heading_stuck-is i || c.raise_codes-code_stuck.result }) ∙ under_cancelled c.args.r c.args.l c.raise_codes-code_stuck.ensures w.in-Cancelled.is w.raise-heading_stuck-in-Cancelled.ensures.risen w.raise-heading_stuck-in-Cancelled.ensures.told
+      | in-Found w ↦ (λ i. record { after = w.after-is i; stuck = w.heading_stuck-is i || c.raise_codes-code_stuck.result }) ∙ under_found c.args.r c.args.l c.raise_codes-code_stuck.ensures w.in-Found.is w.raise-heading_stuck-in-Found.ensures.risen w.raise-heading_stuck-in-Found.ensures.told
+      | in-Full w ↦ (λ i. record { after = w.after-is i; stuck = w.heading_stuck-is i || c.raise_codes-code_stuck.result }) ∙ under_full c.args.r c.args.l c.raise_codes-code_stuck.ensures w.in-Full.is w.raise-heading_stuck-in-Full.ensures.risen w.raise-heading_stuck-in-Full.ensures.told
+      | in-Refused w ↦ (λ i. record { after = w.after-is i; stuck = w.heading_stuck-is i || c.raise_codes-code_stuck.result }) ∙ under_refused c.args.r c.args.l c.raise_codes-code_stuck.ensures w.in-Refused.is w.raise-heading_stuck-in-Refused.ensures.risen w.raise-heading_stuck-in-Refused.ensures.told
+    ]

@@ -18,23 +18,11 @@ shape_of-counters-then-counters-from c = c.loop-left.invariant.length_is
 pub returns-then-counters-from : goal.returns-then-counters-from
 returns-then-counters-from c = raised_stop c.loop-left.invariant (omega (arith, c.if-counters-from.true))
 
-pub overflow_add-n : goal.overflow_add-n
-overflow_add-n c = omega (arith, low_at c.loop-left.invariant c.loop-left-test.true c.ranges.word.fits (omega arith), c.loop-left.invariant.length_is)
-
 pub offset_bounds-counters-from : goal.offset_bounds-counters-from
 offset_bounds-counters-from c = omega (arith, low_at c.loop-left.invariant c.loop-left-test.true c.ranges.word.fits (omega arith), c.loop-left.invariant.length_is)
 
 pub bounds-counters-from : goal.bounds-counters-from
 bounds-counters-from c = low_at c.loop-left.invariant c.loop-left-test.true c.ranges.word.fits (omega arith)
-
-pub overflow_add-counters : goal.overflow_add-counters
-overflow_add-counters c = omega (arith, low_at c.loop-left.invariant c.loop-left-test.true c.ranges.word.fits (omega arith), c.loop-left.invariant.length_is)
-
-pub offset_bounds-counters-from-in-loop-left : goal.offset_bounds-counters-from-in-loop-left
-offset_bounds-counters-from-in-loop-left c = omega (arith, low_at c.loop-left.invariant c.loop-left-test.true c.ranges.word.fits (omega arith), c.loop-left.invariant.length_is)
-
-pub bounds-counters-from-in-loop-left : goal.bounds-counters-from-in-loop-left
-bounds-counters-from-in-loop-left c = low_at c.loop-left.invariant c.loop-left-test.true c.ranges.word.fits (omega arith)
 
 pub overflow_shl-left : goal.overflow_shl-left
 overflow_shl-left c = low_under c.loop-left.invariant c.loop-left-test.true c.ranges.word.fits (omega arith)
@@ -46,16 +34,10 @@ pub loop-left-smaller : goal.loop-left-smaller
 loop-left-smaller c = left_less c.loop-left.invariant c.loop-left-test.true c.ranges.word.fits (omega arith)
 
 pub loop-left-preserved : goal.loop-left-preserved
-loop-left-preserved c = raised_on c.loop-left.invariant c.loop-left-test.true c.ranges.word.fits (omega arith) c.is_stuck-stuck.ensures c.up_if.ensures
+loop-left-preserved c = raised_on c.loop-left.invariant c.loop-left-test.true c.ranges.word.fits (omega arith) c.raise-stuck.ensures.told c.raise-stuck.ensures.risen
 
 pub shape_of-counters : goal.shape_of-counters
 shape_of-counters c = c.loop-left.invariant.length_is
 
 pub returns : goal.returns
 returns c = raised_end c.loop-left.invariant (omega arith)
-
-pub is_stuck-stuck-requires : goal.is_stuck-stuck-requires
-is_stuck-stuck-requires c = tt
-
-pub up_if-requires : goal.up_if-requires
-up_if-requires c = tt
