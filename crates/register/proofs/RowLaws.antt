@@ -8,7 +8,7 @@ use Prim.Native.Nat.{ℕ, zero, suc, ◌+◌, ◌*◌, ◌-◌, ◌/◌, ◌≤�
 use native.Mathlib.Nat.{suc-mul, zero-mul, add-zero, mul-le-mul_right, mul-div_cancel, lt_of_mul-lt-mul_right, le_of_mul-le-mul_right}
 use native.Mathlib.Numerals.{add-one}
 use native.Mathlib.Omega.{arith}
-use borrow.Author.Tests.{lt-ltb, ltb-true, ne_eqb}
+use borrow.Author.Tests.{lt-ltb, ltb-true}
 use lib.ListN.{length, get_or, take, drop, length-drop}
 use lib.Seq.{drop-drop, get_or-drop, length-take-le}
 use Rattle.text.specs.Word.{starts_with, same}
@@ -20,7 +20,7 @@ use Rattle.text.proofs.WordLaws.{begins_within}
 use Rattle.text.proofs.LoadLaws.{other_row, next_keeps}
 use Rattle.register.specs.Frame.{width, place, day_width, used, framed, is_used, row_width}
 use Rattle.register.specs.Rows.{Row, rows_in, rows_of, own_from, look, state_of, stands_as, first_row, standing, standing_at}
-use Rattle.register.specs.declared.rows.Standing.TheVariants.{Absent, Live, Cancelled}
+use Rattle.register.specs.declared.rows.Standing.TheVariants.{Absent}
 use Rattle.register.proofs.Stores.{drop_take}
 use Rattle.register.proofs.Words.{starts_take}
 use Rattle.register.proofs.FrameLaws.{Framed, framed_is, is_framed, row_within, rows_within}

@@ -1,6 +1,5 @@
-use mathlib.Core.Path.{◌≡◌, ◌∙◌}
+use mathlib.Core.Path.{◌∙◌}
 use mathlib.Core.Bool.{◌||◌}
-use Rattle.summary.specs.declared.Tally.{Tally}
 use Rattle.summary.proofs.CountLaws.{under_accepted, under_cancelled, under_found, under_full, under_refused}
 use Rattle.summary.proofs.counted.Goals as goal
 use Rattle.summary.proofs.counted.Goals.{in-New, in-Cancelled, in-Found, in-Full, in-Refused}

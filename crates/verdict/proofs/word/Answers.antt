@@ -1,6 +1,4 @@
-use mathlib.Core.Path.{◌≡◌, ◌∙◌, sym, subst}
-use Rattle.std.specs.Slice.Iter.{iter_rest}
-use Rattle.verdict.proofs.BitLaws.{WordSoFar, word_start, word_on, word_end, word_fits}
+use Rattle.verdict.proofs.BitLaws.{word_start, word_on, word_end, word_fits}
 use native.Mathlib.Omega.{arith}
 use Rattle.verdict.proofs.word.Goals as goal
 

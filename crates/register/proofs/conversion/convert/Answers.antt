@@ -1,8 +1,5 @@
 use mathlib.Core.Path.{◌≡◌, ◌∙◌, sym}
-use Rattle.std.proofs.Common.{Ok, Err}
-use Prim.Native.Nat.{◌≤◌}
-use lib.ListN.{length}
-use Rattle.register.specs.Frame.{place}
+use Rattle.std.proofs.Common.{Err}
 use Rattle.register.specs.Refused.{rows_to_convert}
 use Rattle.register.specs.declared.conversion.Refusal.TheVariants.{Source, Target}
 use Rattle.register.proofs.ConversionLaws.{conversion_room, conversion_none, conversion_done}

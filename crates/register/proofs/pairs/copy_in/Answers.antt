@@ -1,7 +1,4 @@
-use Prim.Native.Nat.{◌+◌}
-use lib.ListN.{length}
-use mathlib.Core.Path.{◌∙◌, ap, refl}
-use borrow.Rule.Slice.PartMut.{put_mid}
+use mathlib.Core.Path.{refl}
 use Rattle.register.proofs.Stores.{stored}
 use native.Mathlib.Omega.{arith}
 use Rattle.register.proofs.pairs.copy_in.Goals as goal

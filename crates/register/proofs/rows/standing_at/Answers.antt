@@ -1,5 +1,5 @@
-use mathlib.Core.Path.{◌∙◌, ap}
-use Rattle.register.specs.Rows.{state_of, standing_at}
+use mathlib.Core.Path.{◌∙◌}
+use Rattle.register.specs.Rows.{standing_at}
 use Rattle.register.proofs.RowLaws.{tested_row, stands_unused, stands_used}
 use native.Mathlib.Omega.{arith}
 use Rattle.register.proofs.rows.standing_at.Goals as goal

@@ -1,4 +1,3 @@
-use Prim.Native.Nat.{◌≤◌}
 use lib.ListN.{length}
 use mathlib.Core.Path.{◌≡◌}
 use Rattle.register.proofs.WriteLaws.{open_row, free_row, no_row, value_within, appended_stored}
