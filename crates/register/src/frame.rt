@@ -23,7 +23,8 @@ fn width_in(version: u16) -> Option<usize>
 }
 
 // The bytes of a row; 0 where the register is not framed. A call looks at the head here, once, and hands the width on to all
-// that reads or writes a row.
+// that reads or writes a row. The two are no struct: `find`, `standing_at`, `full`, `set_live` and `set_cancelled` are called with both, and
+// the last two write the register under it, so that it would be made anew in each.
 pub fn row_width(register: &[u8]) -> usize
     ensures { result ≡ row_width register.now }
 {

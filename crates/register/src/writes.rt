@@ -60,8 +60,8 @@ fn append(register: &mut [u8], width: usize, pair: &[u8; 73], kept: Kept)
     write_le32(register, 5, count + 1);
 }
 
-#[tactic(auto, unfolding(crate::specs::Written::put))]
 // Writes the pair's value, in the row where it was found, else in the next one.
+#[tactic(auto, unfolding(crate::specs::Written::put))]
 fn put(register: &mut [u8], width: usize, found: Option<usize>, pair: &[u8; 73], kept: Kept)
     requires { width ≡ row_width register.old }
     ensures { register.new ≡ put register.old found pair.now (value_of register.old kept.standing kept.day) }
@@ -81,8 +81,8 @@ pub fn set_live(register: &mut [u8], width: usize, found: Option<usize>, pair: &
     put(register, width, found, pair, Kept { standing, day });
 }
 
-#[tactic(auto, unfolding(crate::specs::Written::set_cancelled))]
 // The pair that was found there is cancelled from that day on.
+#[tactic(auto, unfolding(crate::specs::Written::set_cancelled))]
 pub fn set_cancelled(register: &mut [u8], width: usize, found: Option<usize>, day: u32)
     requires { width ≡ row_width register.old }
     ensures { register.new ≡ set_cancelled register.old found day }

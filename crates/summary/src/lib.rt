@@ -61,7 +61,7 @@ pub struct Noted {
     pub stuck: bool,
 }
 
-// A record with one more line in it, and whether a counter stayed at its top.
+// A record with one more line in it, and whether a counter stayed at its top: the record stands in either case, so that it is no Option.
 #[derive(Clone, Copy)]
 pub struct Tally {
     pub after: Record,
@@ -80,7 +80,7 @@ fn raise(counter: &mut u32) -> bool
 }
 
 // The counters from `from` on whose bits are set in a word, the lowest bit first: a line has few codes, and where it has none no
-// counter is looked at. Bits without a counter are passed over. Whether a counter was at its top.
+// counter is looked at. Bits without a counter are passed over. Whether a counter was at its top. The state is the bits that are left, and no index.
 fn raise_bits(counters: &mut [u32], from: usize, word: u64) -> bool
     requires { from ≤ length counters.old }
     ensures { Raising (replicate from false ++ bits_of 64 word) counters.old result counters.new }

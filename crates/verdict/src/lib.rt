@@ -19,7 +19,7 @@ pub use codes::{BASE_COUNT, CODE_COUNT, RULE_COUNT};
 #[repr(C)]
 #[derive(Clone, Copy, PartialEq, Eq)]
 pub struct Verdict {
-    // 0, or the number of a refusal
+    // 0, or the number of a refusal: the C interface has it so
     pub answer: u16,
     // the findings
     pub count: u16,
@@ -68,6 +68,7 @@ pub fn entries_needed(polish: bool) -> usize
     if polish { CODE_COUNT } else { BASE_COUNT }
 }
 
+// The number is the paper's, which the C interface has.
 #[tactic(auto, unfolding(crate::specs::Verdict::refused_by))]
 pub fn refused(no: u16) -> Verdict
     ensures { result ≡ refused_by no }
@@ -80,7 +81,7 @@ pub fn refused(no: u16) -> Verdict
 }
 
 // The codes of a table whose bits are set in a word, the lowest bit first, into the entries from `from` on; behind the last of them.
-// Bits without a code are passed over.
+// Bits without a code are passed over. The word's bits that are left are the state, and no index: an iterator over them would say no more.
 fn list_bits(table: &[u16], word: u64, findings: &mut [u16], from: usize) -> usize
     requires { (length table.now ≤ 64) × (from + ones word ≤ length findings.old) }
     ensures { Listed (pick table.now (bits_of 64 word)) from findings.old result findings.new }
