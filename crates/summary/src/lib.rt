@@ -80,7 +80,8 @@ fn raise(counter: &mut u32) -> bool
 }
 
 // The counters from `from` on whose bits are set in a word, the lowest bit first: a line has few codes, and where it has none no
-// counter is looked at. Bits without a counter are passed over. Whether a counter was at its top. The state is the bits that are left, and no index.
+// counter is looked at. Bits without a counter are passed over. Whether a counter was at its top. The state is the bits
+// that are left, and no index: an iterator over them would say no more.
 fn raise_bits(counters: &mut [u32], from: usize, word: u64) -> bool
     requires { from ≤ length counters.old }
     ensures { Raising (replicate from false ++ bits_of 64 word) counters.old result counters.new }
