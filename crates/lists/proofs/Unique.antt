@@ -4,26 +4,6 @@ use Rattle.lists.proofs.frame.row_width.Kinds as row_width_kinds
 use Rattle.lists.proofs.frame.row_width.Reads as row_width_reads
 use Rattle.lists.proofs.frame.framed.Kinds as framed_kinds
 use Rattle.lists.proofs.frame.framed.Reads as framed_reads
-use Rattle.lists.proofs.rows.lei_says.Kinds as lei_says_kinds
-use Rattle.lists.proofs.rows.lei_says.Reads as lei_says_reads
-use Rattle.lists.proofs.rows.country_says.Kinds as country_says_kinds
-use Rattle.lists.proofs.rows.country_says.Reads as country_says_reads
-use Rattle.lists.proofs.rows.currency_says.Kinds as currency_says_kinds
-use Rattle.lists.proofs.rows.currency_says.Reads as currency_says_reads
-use Rattle.lists.proofs.rows.venue_says.Kinds as venue_says_kinds
-use Rattle.lists.proofs.rows.venue_says.Reads as venue_says_reads
-use Rattle.lists.proofs.rows.instrument_says.Kinds as instrument_says_kinds
-use Rattle.lists.proofs.rows.instrument_says.Reads as instrument_says_reads
-use Rattle.lists.proofs.scan.lei_list_says.Kinds as lei_list_says_kinds
-use Rattle.lists.proofs.scan.lei_list_says.Reads as lei_list_says_reads
-use Rattle.lists.proofs.scan.country_list_says.Kinds as country_list_says_kinds
-use Rattle.lists.proofs.scan.country_list_says.Reads as country_list_says_reads
-use Rattle.lists.proofs.scan.currency_list_says.Kinds as currency_list_says_kinds
-use Rattle.lists.proofs.scan.currency_list_says.Reads as currency_list_says_reads
-use Rattle.lists.proofs.scan.venue_list_says.Kinds as venue_list_says_kinds
-use Rattle.lists.proofs.scan.venue_list_says.Reads as venue_list_says_reads
-use Rattle.lists.proofs.scan.instrument_list_says.Kinds as instrument_list_says_kinds
-use Rattle.lists.proofs.scan.instrument_list_says.Reads as instrument_list_says_reads
 use Rattle.lists.proofs.lookups.lei_rows.Kinds as lei_rows_kinds
 use Rattle.lists.proofs.lookups.lei_rows.Reads as lei_rows_reads
 use Rattle.lists.proofs.lookups.country_known.Kinds as country_known_kinds
@@ -40,36 +20,6 @@ row_width_determined κs a x y s t = same_both
 
 pub framed_determined : Determined framed_kinds.ps framed_kinds.r framed_reads.Post
 framed_determined κs a x y s t = same_both
-
-pub lei_says_determined : Determined lei_says_kinds.ps lei_says_kinds.r lei_says_reads.Post
-lei_says_determined κs a x y s t = same_both
-
-pub country_says_determined : Determined country_says_kinds.ps country_says_kinds.r country_says_reads.Post
-country_says_determined κs a x y s t = same_both
-
-pub currency_says_determined : Determined currency_says_kinds.ps currency_says_kinds.r currency_says_reads.Post
-currency_says_determined κs a x y s t = same_both
-
-pub venue_says_determined : Determined venue_says_kinds.ps venue_says_kinds.r venue_says_reads.Post
-venue_says_determined κs a x y s t = same_both
-
-pub instrument_says_determined : Determined instrument_says_kinds.ps instrument_says_kinds.r instrument_says_reads.Post
-instrument_says_determined κs a x y s t = same_both
-
-pub lei_list_says_determined : Determined lei_list_says_kinds.ps lei_list_says_kinds.r lei_list_says_reads.Post
-lei_list_says_determined κs a x y s t = same_both
-
-pub country_list_says_determined : Determined country_list_says_kinds.ps country_list_says_kinds.r country_list_says_reads.Post
-country_list_says_determined κs a x y s t = same_both
-
-pub currency_list_says_determined : Determined currency_list_says_kinds.ps currency_list_says_kinds.r currency_list_says_reads.Post
-currency_list_says_determined κs a x y s t = same_both
-
-pub venue_list_says_determined : Determined venue_list_says_kinds.ps venue_list_says_kinds.r venue_list_says_reads.Post
-venue_list_says_determined κs a x y s t = same_both
-
-pub instrument_list_says_determined : Determined instrument_list_says_kinds.ps instrument_list_says_kinds.r instrument_list_says_reads.Post
-instrument_list_says_determined κs a x y s t = same_both
 
 pub lei_rows_determined : Determined lei_rows_kinds.ps lei_rows_kinds.r lei_rows_reads.Post
 lei_rows_determined κs a x y s t = same_both

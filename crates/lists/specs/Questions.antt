@@ -1,6 +1,7 @@
 -- How one pass over a list answers all that its look-up asks: three questions, in the order in which the look-up names them. A list with
 -- fewer repeats its last.
-use Rattle.std.specs.Prelude.{ℕ, Bool, ◌&&◌, ◌||◌, List}
+use Rattle.std.specs.Prelude.{ℕ, ◌+◌, ◌≤◌, Bool, ◌&&◌, ◌||◌, List}
+use Rattle.text.specs.Stride.{Rowed}
 use Rattle.lists.specs.declared.frame.Mark.{Mark}
 use Rattle.lists.specs.declared.frame.Mark.TheVariants.{Lei, Cty, Ccy, Ven, Ins}
 use Rattle.lists.specs.declared.rows.Answers.{Answers}
@@ -44,3 +45,8 @@ joined found more = record { first = found.first || more.first; second = found.s
 -- no further row can change an answer
 abbrev pub complete : Answers → Bool
 complete found = found.first && found.second && found.third
+
+-- the word of a key by which rows with another are passed, of some bytes at a place, stands within the key
+pub record Worded (key row place size : ℕ) : Type 0 where
+  pub rowed : Rowed row place size
+  pub within : place + size ≤ key

@@ -2,9 +2,8 @@
 ghost use Rattle.std.specs.Prelude.{◌≡◌};
 ghost use Rattle.lists.specs.Lookups.{lei_rows, country_known, currency_rows, venue_rows, instrument_rows};
 
-use crate::scan::{
-    country_list_says, currency_list_says, instrument_list_says, lei_list_says, venue_list_says,
-};
+use crate::rows::{Countries, Currencies, Instruments, Leis, Venues};
+use crate::scan::list_says;
 
 // Some row serves on the day: with status 1, 3 or 4; with any of 1 to 4; with any of these, whenever it was registered.
 #[derive(Clone, Copy)]
@@ -39,7 +38,7 @@ pub struct InstrumentRows {
 pub fn lei_rows(list: &[u8], key: &[u8], day: u32) -> LeiRows
     ensures { result ≡ lei_rows list.now key.now day }
 {
-    let says = lei_list_says(list, key, day);
+    let says = list_says::<Leis>(list, key, day);
     LeiRows {
         unlapsed: says.first,
         any: says.second,
@@ -50,14 +49,13 @@ pub fn lei_rows(list: &[u8], key: &[u8], day: u32) -> LeiRows
 pub fn country_known(list: &[u8], key: &[u8], day: u32) -> bool
     ensures { result ≡ country_known list.now key.now day }
 {
-    let says = country_list_says(list, key, day);
-    says.first
+    list_says::<Countries>(list, key, day).first
 }
 
 pub fn currency_rows(list: &[u8], key: &[u8], day: u32) -> CurrencyRows
     ensures { result ≡ currency_rows list.now key.now day }
 {
-    let says = currency_list_says(list, key, day);
+    let says = list_says::<Currencies>(list, key, day);
     CurrencyRows {
         current: says.first,
         pre_euro: says.second,
@@ -67,7 +65,7 @@ pub fn currency_rows(list: &[u8], key: &[u8], day: u32) -> CurrencyRows
 pub fn venue_rows(list: &[u8], key: &[u8], day: u32) -> VenueRows
     ensures { result ≡ venue_rows list.now key.now day }
 {
-    let says = venue_list_says(list, key, day);
+    let says = list_says::<Venues>(list, key, day);
     VenueRows {
         kind1: says.first,
         kind2: says.second,
@@ -78,7 +76,7 @@ pub fn venue_rows(list: &[u8], key: &[u8], day: u32) -> VenueRows
 pub fn instrument_rows(list: &[u8], key: &[u8], day: u32) -> InstrumentRows
     ensures { result ≡ instrument_rows list.now key.now day }
 {
-    let says = instrument_list_says(list, key, day);
+    let says = list_says::<Instruments>(list, key, day);
     InstrumentRows {
         listed: says.first,
         debt: says.second,

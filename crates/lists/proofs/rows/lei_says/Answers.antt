@@ -1,4 +1,0 @@
-use Rattle.lists.proofs.rows.lei_says.Goals as goal
-
-pub returns : goal.returns
-returns c = cc
