@@ -25,15 +25,14 @@ four p q r = bytes_more p (bytes_more q (bytes_more r (bytes_more (lit< tt) byte
 -- what the table says of every list
 pub record Widths (key row : ℕ) : Type 0 where
   pub nonzero : 0 < row
-  pub short : row ≤ 30
   pub room : key ≤ row
 
 pub widths : (mark : Mark) → Widths (key_width mark) (row_width mark)
-widths Lei = record { nonzero = lit< tt; short = lit≤ tt; room = lit≤ tt }
-widths Cty = record { nonzero = lit< tt; short = lit≤ tt; room = lit≤ tt }
-widths Ccy = record { nonzero = lit< tt; short = lit≤ tt; room = lit≤ tt }
-widths Ven = record { nonzero = lit< tt; short = lit≤ tt; room = lit≤ tt }
-widths Ins = record { nonzero = lit< tt; short = lit≤ tt; room = lit≤ tt }
+widths Lei = record { nonzero = lit< tt; room = lit≤ tt }
+widths Cty = record { nonzero = lit< tt; room = lit≤ tt }
+widths Ccy = record { nonzero = lit< tt; room = lit≤ tt }
+widths Ven = record { nonzero = lit< tt; room = lit≤ tt }
+widths Ins = record { nonzero = lit< tt; room = lit≤ tt }
 
 -- the letters of every mark are three bytes
 letters : (mark : Mark) (list : List ℕ) → Bytes list → 5 ≤ length list
@@ -57,10 +56,6 @@ module _ (mark : Mark) (list : List ℕ) where
   unfolding framed_as
   framed_by bytes h e f g counts wide =
       rw (e, f, g, counts, wide, le-leb 9 (length list) h) (ap (λ t. t && eqb (length list) (9 + count_of list * row_width mark)) (letters mark list bytes (omega arith)))
-
--- a 32-bit count of rows
-pub rows_fit : (count width : ℕ) → count < 2 ^ 32 → width ≤ 30 → count * width < 2 ^ 37
-rows_fit count width h l = omega (arith, mul-le-mul {n₁ = count} {m₁ = width} {n₂ = 2 ^ 32} {m₂ = 30} (omega arith) l)
 
 counted : (letters : List ℕ) (width : ℕ) (list : List ℕ) → 0 < width → framed_as letters width list ≡ true → length (rows_of width list) ≡ count_of list
 unfolding framed_as rows_from

@@ -1,7 +1,5 @@
 -- Each public function's contract determines its answer.
 use Rattle.text.proofs.Determined.{Determined, same_both}
-use Rattle.lists.proofs.frame.row_width.Kinds as row_width_kinds
-use Rattle.lists.proofs.frame.row_width.Reads as row_width_reads
 use Rattle.lists.proofs.frame.framed.Kinds as framed_kinds
 use Rattle.lists.proofs.frame.framed.Reads as framed_reads
 use Rattle.lists.proofs.lookups.lei_rows.Kinds as lei_rows_kinds
@@ -14,9 +12,6 @@ use Rattle.lists.proofs.lookups.venue_rows.Kinds as venue_rows_kinds
 use Rattle.lists.proofs.lookups.venue_rows.Reads as venue_rows_reads
 use Rattle.lists.proofs.lookups.instrument_rows.Kinds as instrument_rows_kinds
 use Rattle.lists.proofs.lookups.instrument_rows.Reads as instrument_rows_reads
-
-pub row_width_determined : Determined row_width_kinds.ps row_width_kinds.r row_width_reads.Post
-row_width_determined κs a x y s t = same_both
 
 pub framed_determined : Determined framed_kinds.ps framed_kinds.r framed_reads.Post
 framed_determined κs a x y s t = same_both

@@ -1,10 +1,11 @@
 // The five lists, one type each: how wide its rows are, by which word of the key rows are passed, and what one row says, whatever its key: the
 // questions of the paper for the list, all answered in one reading.
-ghost use Rattle.std.specs.Prelude.{◌≡◌, ◌≤◌, ℕ, refl};
+ghost use Rattle.std.specs.Prelude.{◌≡◌, ◌≤◌, ℕ, [], ◌∷◌, ◌++◌, refl};
+ghost use Rattle.text.specs.Number.{little_endian};
 ghost use Rattle.std.proofs.Common.{rules};
 ghost use Rattle.lists.specs.declared.frame.Mark.{Mark};
 ghost use Rattle.lists.specs.declared.frame.Mark.TheVariants.{Lei, Cty, Ccy, Ven, Ins};
-ghost use Rattle.lists.specs.Table.{key_width, row_width};
+ghost use Rattle.lists.specs.Table.{letters_of, key_width, row_width};
 ghost use Rattle.lists.specs.Row.{in_days};
 ghost use Rattle.lists.specs.Questions.{row_says, joined, complete, Worded};
 
@@ -47,6 +48,9 @@ impl Answers {
 }
 
 pub trait List {
+    // The number that the list's first four bytes write, least first: the letters of its mark, and the low byte of version 1.
+    const OPENING: u64;
+
     // The bytes of a row, and of the key that it begins with.
     const WIDTH: usize;
 
@@ -56,6 +60,8 @@ pub trait List {
     const PLACE: usize;
 
     const SIZE: usize;
+
+    ghost OPENING: { ℕ };
 
     ghost WIDTH: { ℕ };
 
@@ -69,6 +75,8 @@ pub trait List {
 
     fn says(row: &[u8], day: u32) -> Answers
         ensures { result ≡ row_says mark day row.now };
+
+    ghost opens: { OPENING ≡ little_endian 4 (letters_of mark ++ (1 ∷ [])) };
 
     ghost width_is: { WIDTH ≡ row_width mark };
 
@@ -97,6 +105,8 @@ fn in_days(row: &[u8], at: usize, day: u32) -> bool
 
 // Entities of one issuer begin alike: the word is the eight bytes from the ninth on.
 impl List for Leis {
+    const OPENING: u64 = 0x149454c;
+
     const WIDTH: usize = 30;
 
     const KEY: usize = 20;
@@ -104,6 +114,8 @@ impl List for Leis {
     const PLACE: usize = 8;
 
     const SIZE: usize = 8;
+
+    ghost OPENING = { 0x149454c };
 
     ghost WIDTH = { 30 };
 
@@ -114,6 +126,8 @@ impl List for Leis {
     ghost SIZE = { 8 };
 
     ghost mark = { Lei };
+
+    ghost opens = { refl };
 
     ghost width_is = { refl };
 
@@ -139,6 +153,8 @@ impl List for Leis {
 
 // The word is the whole key.
 impl List for Countries {
+    const OPENING: u64 = 0x1595443;
+
     const WIDTH: usize = 10;
 
     const KEY: usize = 2;
@@ -146,6 +162,8 @@ impl List for Countries {
     const PLACE: usize = 0;
 
     const SIZE: usize = 2;
+
+    ghost OPENING = { 0x1595443 };
 
     ghost WIDTH = { 10 };
 
@@ -156,6 +174,8 @@ impl List for Countries {
     ghost SIZE = { 2 };
 
     ghost mark = { Cty };
+
+    ghost opens = { refl };
 
     ghost width_is = { refl };
 
@@ -175,6 +195,8 @@ impl List for Countries {
 
 // The word is the last two letters.
 impl List for Currencies {
+    const OPENING: u64 = 0x1594343;
+
     const WIDTH: usize = 12;
 
     const KEY: usize = 3;
@@ -182,6 +204,8 @@ impl List for Currencies {
     const PLACE: usize = 1;
 
     const SIZE: usize = 2;
+
+    ghost OPENING = { 0x1594343 };
 
     ghost WIDTH = { 12 };
 
@@ -192,6 +216,8 @@ impl List for Currencies {
     ghost SIZE = { 2 };
 
     ghost mark = { Ccy };
+
+    ghost opens = { refl };
 
     ghost width_is = { refl };
 
@@ -212,6 +238,8 @@ impl List for Currencies {
 }
 
 impl List for Venues {
+    const OPENING: u64 = 0x14e4556;
+
     const WIDTH: usize = 13;
 
     const KEY: usize = 4;
@@ -219,6 +247,8 @@ impl List for Venues {
     const PLACE: usize = 0;
 
     const SIZE: usize = 4;
+
+    ghost OPENING = { 0x14e4556 };
 
     ghost WIDTH = { 13 };
 
@@ -229,6 +259,8 @@ impl List for Venues {
     ghost SIZE = { 4 };
 
     ghost mark = { Ven };
+
+    ghost opens = { refl };
 
     ghost width_is = { refl };
 
@@ -249,6 +281,8 @@ impl List for Venues {
 
 // The word is the last eight bytes of the ISIN. Debt and bonds are what 330 and 350 take for such.
 impl List for Instruments {
+    const OPENING: u64 = 0x1534e49;
+
     const WIDTH: usize = 26;
 
     const KEY: usize = 12;
@@ -256,6 +290,8 @@ impl List for Instruments {
     const PLACE: usize = 4;
 
     const SIZE: usize = 8;
+
+    ghost OPENING = { 0x1534e49 };
 
     ghost WIDTH = { 26 };
 
@@ -266,6 +302,8 @@ impl List for Instruments {
     ghost SIZE = { 8 };
 
     ghost mark = { Ins };
+
+    ghost opens = { refl };
 
     ghost width_is = { refl };
 

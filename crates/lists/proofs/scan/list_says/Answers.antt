@@ -1,26 +1,18 @@
-use Rattle.std.proofs.Common.{sym, ◌∙◌, arith, ◌+◌, ◌≡◌}
+use Rattle.std.proofs.Common.{sym, ◌∙◌, arith, ◌+◌}
 use Rattle.text.proofs.LoadLaws.{next_behind}
-use Rattle.lists.proofs.PassLaws.{worded_as, read_none, read_start, read_past, read_on, read_next, read_all, read_end}
+use Rattle.lists.proofs.PassLaws.{worded_as, read_none, read_past, read_on, read_next, read_all, read_end}
 use Rattle.lists.proofs.scan.list_says.Goals as goal
 use Rattle.lists.proofs.scan.list_says.Goals.{then-begins_with+else-complete, else-begins_with}
 
 pub returns-then-key-KEY : goal.returns-then-key-KEY
 returns-then-key-KEY g c = read_none g.L.List.mark c.args.list.now c.args.key.now c.args.day (λ e. c.if-key-KEY.true (e ∙ sym (c.KEY.ensures ∙ g.met.L.List.key_is)))
 
-pub word-asked-requires : goal.word-asked-requires
-word-asked-requires g c = let w = worded_as g.met.L.List.is_worded g.met.L.List.key_is c.WIDTH-width.ensures c.PLACE-place.ensures c.SIZE-size.ensures in (w.rowed.sized, omega (arith, w.within, c.KEY.ensures, g.met.L.List.key_is, c.if-key-KEY.false))
-
-pub loop-at-init : goal.loop-at-init
-loop-at-init g c = read_start (c.WIDTH-width.ensures ∙ g.met.L.List.width_is) (c.if-key-KEY.false ∙ c.KEY.ensures ∙ g.met.L.List.key_is)
-
 pub returns-then-complete : goal.returns-then-complete
 returns-then-complete g c = read_all (read_on c.loop-at.invariant (omega arith) (sym c.begins_with.ensures ∙ c.if-begins_with.true) c.says.ensures c.joined-found.ensures) (sym c.complete.ensures ∙ c.if-complete.true)
 
-pub next_row-at-requires : goal.next_row-at-requires
-next_row-at-requires g c = ((worded_as g.met.L.List.is_worded g.met.L.List.key_is c.WIDTH-width.ensures c.PLACE-place.ensures c.SIZE-size.ensures).rowed, omega arith)
-
 pub loop-at-smaller : goal.loop-at-smaller
-loop-at-smaller g c = let w = worded_as g.met.L.List.is_worded g.met.L.List.key_is c.WIDTH-width.ensures c.PLACE-place.ensures c.SIZE-size.ensures in
+loop-at-smaller g c =
+    let w = worded_as g.met.L.List.is_worded g.met.L.List.key_is c.WIDTH-width.ensures c.PLACE-place.ensures c.SIZE-size.ensures in
     omega (arith, w.rowed.nonzero, c.next_row-at.ensures, next_behind w.rowed c.word-asked.result c.args.list.now (c.loop-at.at + c.WIDTH-width.result))
 
 pub loop-at-preserved : goal.loop-at-preserved
