@@ -1,21 +1,18 @@
 -- The pass of a look-up: the three questions of a list, asked of the rows from a place on.
-use mathlib.Core.Path.{◌≡◌, ◌∙◌, refl, sym}
+use mathlib.Core.Path.{◌≡◌, ◌∙◌, sym}
 use mathlib.Core.Bool.{Bool, true, false, ◌&&◌}
-use mathlib.Core.Logic.{inl, inr}
 use mathlib.Core.List.{List}
 use Prim.Native.Nat.{ℕ, ◌+◌, ◌-◌, ◌≤◌, ◌<◌}
 use native.Mathlib.Nat.{add-sub_cancel_left}
 use native.Mathlib.Omega.{arith}
-use lib.Dec.{lit<, lit≤}
 use lib.ListN.{length, take, drop}
 use Rattle.text.specs.Word.{starts_with}
 use Rattle.text.specs.Number.{little_endian}
-use Rattle.text.specs.Stride.{Rowed, has_word, next_row}
+use Rattle.text.specs.Stride.{has_word, next_row}
 use Rattle.text.proofs.Bools.{and_left, and_right}
 use Rattle.text.proofs.WordLaws.{begins_within}
 use Rattle.text.proofs.LoadLaws.{other_row, next_keeps}
 use Rattle.lists.specs.declared.frame.Mark.{Mark}
-use Rattle.lists.specs.declared.frame.Mark.TheVariants.{Lei, Cty, Ccy, Ven, Ins}
 use Rattle.lists.specs.declared.rows.Answers.{Answers}
 use Rattle.lists.specs.Table.{key_width, row_width}
 use Rattle.lists.specs.Rows.{keyed, some_row}
