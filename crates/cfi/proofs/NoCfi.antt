@@ -10,7 +10,6 @@ use lib.ListN.{length, get_or, replicate}
 use Rattle.text.proofs.Bools.{and_left, and_right}
 use Rattle.text.proofs.WordLaws.{other_length}
 use Rattle.cfi.specs.Rules.{Rule, rules, wrong, any, matches, broken, violated, codes, cfi_findings}
-use Rattle.cfi.proofs.GroupLaws.{firsts, among, rules_begun, group_finds, no_group}
 use Rattle.cfi.proofs.Spelling.{six, all_six, rules_six}
 
 module _ (cfi : List ℕ) (h : length cfi ≡ 6 → ⊥) where
@@ -45,10 +44,3 @@ all_false kinds cfi none (code ∷ cs) = λ i. none code i ∷ all_false kinds c
 pub no_cfi : (cfi : List ℕ) → (length cfi ≡ 6 → ⊥) → (kinds : List ℕ) → replicate 19 false ≡ cfi_findings kinds cfi
 unfolding cfi_findings
 no_cfi cfi h kinds = sym (all_false kinds cfi (none_violated cfi h kinds) codes)
-
--- a CFI that begins as no pattern does
-pub no_letter : (kinds cfi : List ℕ) → length cfi ≡ 6 → among (get_or cfi 0 0) firsts ≡ false → replicate 19 false ≡ cfi_findings kinds cfi
-unfolding cfi_findings violated any
-no_letter kinds [] h e = absurd (omega arith)
-no_letter kinds (x ∷ t) h e =
-    sym (all_false kinds (x ∷ t) (λ k. sym (group_finds x t kinds k rules rules_begun) ∙ rw (no_group x e rules rules_begun)) codes)
