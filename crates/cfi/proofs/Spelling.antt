@@ -1,11 +1,12 @@
 -- What the code finds in the table of a letter is what the rules find.
 use mathlib.Core.Path.{◌≡◌, ◌∙◌, refl, sym}
-use mathlib.Core.Bool.{Bool, true, false, ◌&&◌, ◌||◌, or-false}
+use mathlib.Core.Bool.{Bool, true, false, ◌&&◌, ◌||◌, or_assoc, or-false}
 use mathlib.Core.List.{List, [], ◌∷◌, map}
 use Prim.Native.Nat.{ℕ}
 use native.Mathlib.Omega.{arith}
 use lib.Dec.{eqb}
 use lib.ListN.{length, get_or}
+use Rattle.std.specs.List.{list_any}
 use Rattle.text.specs.Ascii.{ascii}
 use Rattle.text.specs.Shape.{shape}
 use Rattle.cfi.specs.declared.tables.Row.{Row}
@@ -28,13 +29,14 @@ unfolding all_six six rules words
 rules_six = refl
 
 -- the patterns of 330 and of 350, as they stand in the code a second time
-pub debt_patterns : (cfi : List ℕ) → matches (ascii "D*****" ∷ []) cfi ≡ matches_code 330 cfi
-unfolding matches_code any rules words
-debt_patterns cfi = sym (or-false (matches (ascii "D*****" ∷ []) cfi))
+module _ (cfi : List ℕ) where
+  pub debt_text : list_any (λ pattern. shape pattern cfi) (ascii "D*****" ∷ []) ≡ matches_code 330 cfi
+  unfolding matches_code any rules words
+  debt_text = sym (matches_is _ cfi) ∙ sym (or-false _)
 
-pub bond_patterns : (cfi : List ℕ) → matches (ascii "DB****" ∷ ascii "DC****" ∷ ascii "DT****" ∷ ascii "DN****" ∷ []) cfi ≡ matches_code 350 cfi
-unfolding matches_code any rules words
-bond_patterns cfi = sym (or-false (matches (ascii "DB****" ∷ ascii "DC****" ∷ ascii "DT****" ∷ ascii "DN****" ∷ []) cfi))
+  pub bond_text : list_any (λ pattern. shape pattern cfi) (ascii "DB****" ∷ ascii "DC****" ∷ ascii "DT****" ∷ ascii "DN****" ∷ []) ≡ matches_code 350 cfi
+  unfolding matches_code any rules words
+  bond_text = sym (matches_is _ cfi) ∙ sym (or-false _)
 
 -- to ask the rows is to ask the rules that they write
 rows_are : (test : Rule → Bool) (rows : List Row) → any (λ row. test (rule_of row)) rows ≡ any test (map rule_of rows)

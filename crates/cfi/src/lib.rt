@@ -21,7 +21,12 @@ use text::{byte_at, shaped};
 fn matches_one(cfi: &[u8], patterns: &[[u8; 6]]) -> bool
     ensures { result ≡ list_any (λ pattern. shape pattern cfi.now) patterns.now }
 {
-    patterns.iter().any(|pattern| shaped(cfi, pattern))
+    for pattern in patterns {
+        if shaped(cfi, pattern) {
+            return true;
+        }
+    }
+    false
 }
 
 impl Fault {
