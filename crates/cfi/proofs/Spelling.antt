@@ -1,6 +1,6 @@
 -- What the code finds in the table of a letter is what the rules find.
 use mathlib.Core.Path.{◌≡◌, ◌∙◌, refl, sym}
-use mathlib.Core.Bool.{Bool, true, false, ◌&&◌, ◌||◌, or_assoc, or-false}
+use mathlib.Core.Bool.{Bool, true, ◌&&◌, ◌||◌, or-false}
 use mathlib.Core.List.{List, [], ◌∷◌, map}
 use Prim.Native.Nat.{ℕ}
 use native.Mathlib.Omega.{arith}
@@ -10,8 +10,8 @@ use Rattle.std.specs.List.{list_any}
 use Rattle.text.specs.Ascii.{ascii}
 use Rattle.text.specs.Shape.{shape}
 use Rattle.cfi.specs.declared.tables.Row.{Row}
-use Rattle.cfi.specs.Rules.{Rule, rules, codes, any, matches, broken, violated, matches_code, cfi_findings, words}
-use Rattle.cfi.specs.Table.{rule_of, group, Spelled}
+use Rattle.cfi.specs.Rules.{Rule, rules, codes, any, broken, violated, matches_code, cfi_findings, words}
+use Rattle.cfi.specs.Table.{rule_of, Spelled}
 use Rattle.cfi.proofs.WalkLaws.{map_ext, matches_is, found_in}
 use Rattle.cfi.proofs.GroupLaws.{rules_begun, group_finds}
 

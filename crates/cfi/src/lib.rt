@@ -9,7 +9,7 @@
 ghost use Rattle.std.specs.Prelude.{◌≡◌, [], ◌∷◌};
 ghost use Rattle.std.specs.List.{list_any};
 ghost use Rattle.text.specs.Shape.{shape};
-ghost use Rattle.cfi.specs.Rules.{wrong, matches, broken, matches_code, cfi_findings, codes};
+ghost use Rattle.cfi.specs.Rules.{wrong, broken, matches_code, cfi_findings, codes};
 ghost use Rattle.cfi.specs.Table.{fault_of, rule_of, marked};
 
 mod tables;
@@ -63,8 +63,8 @@ fn mark(found: &mut [bool; 19], code: u16)
 }
 
 // Whether a CFI matches a pattern of 330, and one of 350: for the rules that look at another CFI than that of cell 43. The few
-// patterns stand here again, since to make the long tables would cost more than to walk these; that they are those of 330 and 350
-// is the contract, which knows one table only.
+// patterns stand here again, since these are tried with no look at a cell; that they are those of 330 and 350 is the contract, which
+// knows one table only.
 pub fn debt_and_bond(cfi: &[u8]) -> [bool; 2]
     ensures { result ≡ matches_code 330 cfi.now ∷ matches_code 350 cfi.now ∷ [] }
 {
@@ -75,6 +75,7 @@ pub fn debt_and_bond(cfi: &[u8]) -> [bool; 2]
 
 // Of each of the 19 codes by CFI, in rising order, whether it is violated. Every pattern has six letters, and most lines have
 // no CFI: then nothing is walked.
+#[tactic(auto, using(crate::proofs::NoCfi::no_cfi))]
 pub fn cfi_findings(kinds: &[u8; 66], cfi: &[u8]) -> [bool; 19]
     ensures { result ≡ cfi_findings kinds.now cfi.now }
 {

@@ -1,12 +1,8 @@
 use Rattle.std.proofs.Common.{arith, ◌∙◌}
 use Rattle.cfi.proofs.WalkLaws.{found_start, found_more, found_same, found_end}
-use Rattle.cfi.proofs.NoCfi.{no_cfi}
 use Rattle.cfi.proofs.Spelling.{found_is}
 use Rattle.cfi.proofs.cfi_findings.Goals as goal
 use Rattle.cfi.proofs.cfi_findings.Goals.{then-is_broken, else-is_broken}
-
-pub returns-then-cfi-ne6 : goal.returns-then-cfi-ne6
-returns-then-cfi-ne6 c = no_cfi c.args.cfi.now c.if-cfi-ne6.true c.args.kinds.now
 
 pub loop-row-init : goal.loop-row-init
 loop-row-init c = found_start
@@ -18,4 +14,4 @@ loop-row-preserved c = elim c.if-is_broken.branch [
 ]
 
 pub returns : goal.returns
-returns c = found_end c.loop-row.invariant (omega arith) ∙ found_is c.args.kinds.now c.args.cfi.now c.if-cfi-ne6.false c.rows_of-row-items.ensures
+returns c = found_end c.loop-row.invariant (omega arith) ∙ found_is c.args.kinds.now c.args.cfi.now (omega arith) c.rows_of-row-items.ensures
