@@ -15,6 +15,7 @@ use text::{byte_at, le32, part};
 
 // The answers to a list's questions, in the order in which its look-up names them. A list with fewer than three repeats its last, so
 // that all three are true exactly if no further row can change an answer.
+// A struct and no array: the questions have names in specs/, and an array is no plainer.
 #[derive(Clone, Copy)]
 pub struct Answers {
     pub first: bool,
