@@ -15,16 +15,16 @@ then_some-cond : (b : Bool) (n : ℕ) → then_some b n ≡ cond b (Some n) None
 then_some-cond true n = refl
 then_some-cond false n = refl
 
-pub returns-then-not-is_written : goal.returns-then-not-is_written
+pub returns-then-not-shaped : goal.returns-then-not-shaped
 unfolding date_of
-returns-then-not-is_written c = rw (sym c.is_written.ensures ∙ c.if-not-is_written.true)
+returns-then-not-shaped c = rw (sym c.shaped.ensures ∙ c.if-not-shaped.true)
 
 pub day_written-day-requires : goal.day_written-day-requires
-day_written-day-requires c = by_pattern (ascii "dddd-dd-dd") c.args.s.now date_places refl (sym c.is_written.ensures ∙ c.if-not-is_written.false)
+day_written-day-requires c = by_pattern (ascii "dddd-dd-dd") c.args.s.now date_places refl (sym c.shaped.ensures ∙ c.if-not-shaped.false)
 
 pub returns : goal.returns
 unfolding date_of
 returns c =
     let day = c.day_written-day.ensures in
-    rw (sym c.is_written.ensures ∙ c.if-not-is_written.false)
+    rw (sym c.shaped.ensures ∙ c.if-not-shaped.false)
     (c.then_some.ensures ∙ then_some-cond _ _ ∙ λ i. cond ((c.is_day.ensures ∙ ap is_day day) i) (Some (day i)) None)
