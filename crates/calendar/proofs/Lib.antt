@@ -6,8 +6,7 @@ pub mod DayNumber
 pub mod Sums
 pub mod FiveYears
 pub mod FiveYearsDays
-pub mod Digits
 pub mod PlaceLaws
-pub mod CellRuns
 pub mod MomentLaws
+pub mod Options
 mod Unique

@@ -4,21 +4,35 @@ use mathlib.Core.Bool.{Bool, true, false, ◌&&◌, ◌||◌, and-false, or-fals
 use mathlib.Core.List.{List, [], ◌∷◌}
 use Prim.Native.Nat.{ℕ, zero, suc, ◌+◌, ◌-◌, ◌≤◌, ◌<◌}
 use native.Mathlib.Omega.{arith}
-use borrow.Author.Tests.{eqb-true, eqb-false}
-use lib.Dec.{eqb}
-use lib.ListN.{length, get_or, take, drop, drop_of_length-le}
+use borrow.Author.Tests.{eqb-true, eqb-false, ltb-true, ltb-false, le-leb, lt-leb}
+use lib.Dec.{eqb, leb, ltb}
+use lib.ListN.{length, get_or, take, drop, length-take, length-drop, drop_of_length-le}
 use Rattle.std.specs.Prelude.{None}
 use Rattle.text.specs.declared.classes.Class.TheVariants.{Digit}
 use Rattle.text.specs.Ascii.{ascii}
-use Rattle.text.specs.Class.{all_of}
-use Rattle.text.specs.Shape.{shape}
+use Rattle.text.specs.Class.{run_of}
+use Rattle.text.specs.Shape.{suits, shape}
 use Rattle.text.proofs.Bools.{by_test}
 use Rattle.text.proofs.WordLaws.{other_length}
-use Rattle.text.proofs.RunLaws.{in_runs, times}
+use Rattle.text.proofs.RunLaws.{Run, in_runs, times, digits, itself}
 use Rattle.calendar.specs.Day.{is_day}
 use Rattle.calendar.specs.Dates.{day_written}
 use Rattle.calendar.specs.Moments.{is_ending, is_time, is_moment_cell, when_of}
-use Rattle.calendar.proofs.CellRuns.{z_runs, fraction_runs}
+
+point_letter : (b : ℕ) → suits 46 b ≡ eqb b 46
+unfolding suits
+point_letter b = refl
+
+z_letter : (b : ℕ) → suits 90 b ≡ eqb b 90
+unfolding suits
+z_letter b = refl
+
+-- Z, and a point, k digits, Z
+abbrev z_runs : List Run
+z_runs = itself 90 z_letter ∷ []
+
+abbrev fraction_runs : ℕ → List Run
+fraction_runs k = itself 46 point_letter ∷ digits k ∷ itself 90 z_letter ∷ []
 
 -- a point, k digits, Z
 abbrev ending : ℕ → List ℕ
@@ -58,23 +72,39 @@ module _ (t : List ℕ) where
   unfolding is_ending
   ending_z h = sym (shorter 6 t (omega arith) ∙ in_runs true 0 z_runs t h)
 
-  pub ending_short : (length t ≡ 1 → ⊥) → length t < 3 → false ≡ is_ending t
+  pub ending_none : length t < 1 → false ≡ is_ending t
   unfolding is_ending
-  ending_short h l = sym (shorter 6 t l ∙ sym (other_length (ascii "Z") t h))
+  ending_none h = sym (shorter 6 t (omega arith) ∙ sym (other_length (ascii "Z") t (λ e. absurd (omega arith))))
 
-  pub ending_long : 8 < length t → false ≡ is_ending t
-  unfolding is_ending
-  ending_long h = sym (longer 6 t h)
+  -- what is between the first byte and the last
+  abbrev pub between : List ℕ
+  between = take (length t - 1 - 1) (drop 1 t)
 
-  pub ending_digits : {r : Bool} → 3 ≤ length t → length t ≤ 8 → r ≡ all_of Digit (take (length t - 1 - 1) (drop 1 t))
+  pub ending_digits : {r : Bool} → 2 ≤ length t → r ≡ run_of Digit 1 6 between
       → (eqb (get_or t 0 0) 46 && r && eqb (get_or t (length t - 1) 0) 90) ≡ is_ending t
   unfolding is_ending
-  ending_digits h l e =
+  ending_digits h e =
+      let n : length between ≡ length t - 2 = omega (arith, length-take (length t - 1 - 1) (drop 1 t), length-drop 1 t) in
       let k : ℕ = length t - 2 in
-      let n : length t - 1 - 1 ≡ k = omega arith in
       let last : length t - 1 ≡ 1 + k = omega arith in
-      rw (e, n, last)
-      (sym (own 6 k t (omega arith) (omega arith) (omega arith) ∙ in_runs true 0 (fraction_runs k) t (omega arith)))
+      rw (e, n)
+      (by_test (ltb (length t) 3)
+      (λ p.
+      let few : leb 1 (length t - 2) ≡ false = lt-leb 1 (length t - 2) (omega (arith, ltb-true (length t) 3 p)) in
+      rw (few, and-false) (sym (shorter 6 t (ltb-true (length t) 3 p) ∙ sym (other_length (ascii "Z") t (λ f. absurd (omega arith))))))
+      (λ p.
+      let some : leb 1 (length t - 2) ≡ true = le-leb 1 (length t - 2) (omega (arith, ltb-false (length t) 3 p)) in
+      by_test (ltb 8 (length t))
+      (λ q.
+      let many : leb (length t - 2) 6 ≡ false = lt-leb (length t - 2) 6 (omega (arith, ltb-true 8 (length t) q)) in
+      rw (some, many, and-false) (sym (longer 6 t (ltb-true 8 (length t) q))))
+      (λ q.
+      let right : leb (length t - 2) 6 ≡ true = le-leb (length t - 2) 6 (omega (arith, ltb-false 8 (length t) q)) in
+      let m : length t - 1 - 1 ≡ k = omega arith in
+      let p3 : 3 ≤ length t = ltb-false (length t) 3 p in
+      let q8 : length t ≤ 8 = ltb-false 8 (length t) q in
+      rw (some, right, m, last)
+      (sym (own 6 k t (omega arith) (omega arith) (omega arith) ∙ in_runs true 0 (fraction_runs k) t (omega arith))))))
 
 -- a cell that is written as a moment, with its ending, has still to write a real day and time
 module _ (s : List ℕ) where

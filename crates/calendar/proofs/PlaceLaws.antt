@@ -16,7 +16,7 @@ use Rattle.text.specs.Number.{digit_of, two_digits}
 use Rattle.text.specs.Shape.{suits, shape}
 use Rattle.text.proofs.Bools.{and_left, and_right, or_cases, by_test}
 use Rattle.text.proofs.NumberLaws.{digit_yes}
-use Rattle.calendar.specs.Places.{digits_at, pair_at}
+use Rattle.calendar.specs.Places.{digits_at, pair_at, date_places, time_places}
 
 -- a place that is among others
 abbrev has : ℕ → List ℕ → Bool
@@ -31,10 +31,35 @@ one_of (j ∷ more) s i e h =
     (λ (q : has i more ≡ true). one_of more s i (and_right (in_class Digit (get_or s j 0)) (digits_at more s) e) q)
     (or_cases (eqb i j) (has i more) h)
 
-pub pair_of_lem : (at : ℕ) (more s : List ℕ) → (has at more && has (at + 1) more) ≡ true → digits_at more s ≡ true → pair_at at s ≡ true
+pair_of_lem : (at : ℕ) (more s : List ℕ) → (has at more && has (at + 1) more) ≡ true → digits_at more s ≡ true → pair_at at s ≡ true
 unfolding pair_at
 pair_of_lem at more s h e =
     rw (one_of more s at e (and_left (has at more) (has (at + 1) more) h), one_of more s (at + 1) e (and_right (has at more) (has (at + 1) more) h))
+
+-- each pair of a date, and of a time
+module _ (s : List ℕ) where
+  module _ (e : digits_at date_places s ≡ true) where
+    pub century_there : pair_at 0 s ≡ true
+    century_there = pair_of_lem 0 date_places s refl e
+
+    pub year_there : pair_at 2 s ≡ true
+    year_there = pair_of_lem 2 date_places s refl e
+
+    pub month_there : pair_at 5 s ≡ true
+    month_there = pair_of_lem 5 date_places s refl e
+
+    pub day_there : pair_at 8 s ≡ true
+    day_there = pair_of_lem 8 date_places s refl e
+
+  module _ (e : digits_at time_places s ≡ true) where
+    pub hour_there : pair_at 11 s ≡ true
+    hour_there = pair_of_lem 11 time_places s refl e
+
+    pub minute_there : pair_at 14 s ≡ true
+    minute_there = pair_of_lem 14 time_places s refl e
+
+    pub second_there : pair_at 17 s ≡ true
+    second_there = pair_of_lem 17 time_places s refl e
 
 -- the pattern has a digit at each of the places
 abbrev pub marked : List ℕ → List ℕ → Bool

@@ -7,6 +7,7 @@ ghost use Rattle.calendar.specs.Places.{digits_at, pair_at, date_places};
 use crate::days::is_day;
 
 // The two digits at a place where there are digits. A digit is 48 more than it counts, so together they are 11 times 48 more.
+#[tactic(auto, using(crate::proofs::PlaceLaws::two_within, crate::proofs::PlaceLaws::first_small, crate::proofs::PlaceLaws::second_small, crate::proofs::PlaceLaws::two_are))]
 pub fn two_at(s: &[u8], at: usize) -> u32
     requires { pair_at at s.now ≡ true }
     ensures { result ≡ two_digits (drop at s.now) }
@@ -15,6 +16,7 @@ pub fn two_at(s: &[u8], at: usize) -> u32
 }
 
 // The day that the digits of yyyy-mm-dd write.
+#[tactic(auto, using(crate::proofs::PlaceLaws::century_there, crate::proofs::PlaceLaws::year_there, crate::proofs::PlaceLaws::month_there, crate::proofs::PlaceLaws::day_there, text::proofs::NumberLaws::two_small), unfolding(crate::specs::Dates::day_written, text::specs::Number::four_digits))]
 pub fn day_written(s: &[u8]) -> u32
     requires { digits_at date_places s.now ≡ true }
     ensures { result ≡ day_written s.now }

@@ -2,25 +2,22 @@
 ghost use Rattle.std.specs.Prelude.{◌≡◌};
 ghost use Rattle.calendar.specs.Day.{leap, month_length, is_day_of, is_day, five_years_before};
 
+#[tactic(auto, unfolding(crate::specs::Day::leap))]
 fn is_leap(year: u32) -> bool
     ensures { result ≡ leap year }
 {
     (year % 4 == 0) & ((year % 100 != 0) | (year % 400 == 0))
 }
 
+#[tactic(auto, unfolding(crate::specs::Day::month_length))]
 fn month_length(year: u32, month: u32) -> u32
     ensures { result ≡ month_length year month }
 {
-    if month == 2 {
-        if is_leap(year) {
-            return 29;
-        }
-        return 28;
+    match month {
+        2 => { if is_leap(year) { 29 } else { 28 } }
+        4 | 6 | 9 | 11 => 30,
+        _ => 31,
     }
-    if (month == 4) | (month == 6) | (month == 9) | (month == 11) {
-        return 30;
-    }
-    31
 }
 
 // A real day of the years `first` to `last`.
@@ -39,6 +36,7 @@ pub fn is_day_of(first: u32, last: u32, ymd: u32) -> bool
 }
 
 // Of the years 1900 to 9999, as cells and the submission moment have them.
+#[tactic(auto, unfolding(crate::specs::Day::is_day))]
 pub fn is_day(ymd: u32) -> bool
     ensures { result ≡ is_day ymd }
 {
@@ -51,7 +49,7 @@ pub fn five_years_before(ymd: u32) -> u32
     ensures { result ≡ five_years_before ymd }
 {
     let year = ymd / 10000;
-    let earlier = if year < 5 { 0 } else { year - 5 };
+    let earlier = year.saturating_sub(5);
     let month_and_day = ymd % 10000;
     if month_and_day == 229 {
         return earlier * 10000 + 228;

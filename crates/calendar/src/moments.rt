@@ -19,6 +19,7 @@ pub struct Moment {
 }
 
 // hh:mm:ss of yyyy-mm-ddThh:mm:ss is at most 23:59:59.
+#[tactic(auto, using(crate::proofs::PlaceLaws::hour_there, crate::proofs::PlaceLaws::minute_there, crate::proofs::PlaceLaws::second_there), unfolding(crate::specs::Moments::is_time))]
 fn is_time(s: &[u8]) -> bool
     requires { digits_at time_places s.now ≡ true }
     ensures { result ≡ is_time s.now }
@@ -30,17 +31,13 @@ fn is_time(s: &[u8]) -> bool
 fn is_ending(t: &[u8]) -> bool
     ensures { result ≡ is_ending t.now }
 {
-    let n = t.len();
-    if n == 1 {
-        return t[0] == b'Z';
+    match t {
+        [] => false,
+        [z] => *z == b'Z',
+        [point, digits @ .., z] => (*point == b'.')
+            & text::run_of(digits, Class::Digit, 1, 6)
+            & (*z == b'Z'),
     }
-    if n < 3 {
-        return false;
-    }
-    if 8 < n {
-        return false;
-    }
-    (t[0] == b'.') & text::all_within(t, 1, n - 1, Class::Digit) & (t[n - 1] == b'Z')
 }
 
 // yyyy-mm-ddThh:mm:ss, of a real day and time or not.
@@ -51,6 +48,7 @@ fn is_written(s: &[u8]) -> bool
 }
 
 // What is no digit counts 0, so a shorter fraction is filled with zeros.
+#[tactic(auto, using(crate::proofs::PlaceLaws::hour_there, crate::proofs::PlaceLaws::minute_there, crate::proofs::PlaceLaws::second_there, text::proofs::NumberLaws::two_small, text::proofs::NumberLaws::four_small), unfolding(crate::specs::Moments::micro_written))]
 fn micro_written(s: &[u8]) -> u64
     requires { digits_at time_places s.now ≡ true }
     ensures { result ≡ micro_written s.now }
@@ -67,15 +65,13 @@ pub fn parse_moment(s: &[u8]) -> Option<Moment>
     if s.len() < 20 {
         return None;
     }
-    if !(is_written(text::head(s, 19)) & is_ending(text::rest(s, 19))) {
+    let (written, ending) = s.split_at(19);
+    if !(is_written(written) & is_ending(ending)) {
         return None;
     }
     let day = day_written(s);
-    if is_day(day) & is_time(s) {
-        let micro = micro_written(s);
-        return Some(Moment { day, micro });
-    }
-    None
+    let micro = micro_written(s);
+    (is_day(day) & is_time(s)).then_some(Moment { day, micro })
 }
 
 // The cell writes a moment.
@@ -86,6 +82,7 @@ pub fn is_when(when: Option<Moment>) -> bool
 }
 
 // A real day, and a microsecond of it.
+#[tactic(auto, unfolding(crate::specs::Moments::is_moment))]
 pub fn is_moment(day: u32, micro: u64) -> bool
     ensures { result ≡ is_moment day micro }
 {

@@ -65,14 +65,8 @@ pub fn allowed12() -> Allowed
 {
     Allowed {
         intc: false,
-        nore: false,
-        lei: true,
-        ccpt: true,
-        concat: true,
-        nidn: true,
         mic: false,
-        algo: false,
-        shaped: false,
+        ..allowed7()
     }
 }
 
@@ -96,19 +90,13 @@ pub fn allowed59() -> Allowed
     ensures { result ≡ allowed59 }
 {
     Allowed {
-        intc: false,
         nore: true,
-        lei: false,
-        ccpt: true,
-        concat: true,
-        nidn: true,
-        mic: false,
-        algo: true,
-        shaped: true,
+        ..allowed57()
     }
 }
 
 // The kind that the cell's word names, allowed or not.
+#[tactic(auto, unfolding(crate::specs::Party::named))]
 fn named(s: &[u8]) -> Identifier
     ensures { result ≡ named s.now }
 {
@@ -160,15 +148,13 @@ pub fn part_of(s: &[u8], identifier: Identifier) -> &[u8]
     ensures { result.now ≡ part_of identifier s.now }
 {
     match identifier {
-        Identifier::Intc => text::head(s, 0),
-        Identifier::Nore => text::head(s, 0),
-        Identifier::Lei(at) => text::rest(s, at),
-        Identifier::Ccpt(at) => text::rest(s, at),
-        Identifier::Concat(at) => text::rest(s, at),
-        Identifier::Nidn(at) => text::rest(s, at),
-        Identifier::Mic(at) => text::rest(s, at),
-        Identifier::Algo(at) => text::rest(s, at),
-        Identifier::Malformed => text::head(s, 0),
+        Identifier::Lei(at)
+        | Identifier::Ccpt(at)
+        | Identifier::Concat(at)
+        | Identifier::Nidn(at)
+        | Identifier::Mic(at)
+        | Identifier::Algo(at) => text::rest(s, at),
+        Identifier::Intc | Identifier::Nore | Identifier::Malformed => text::head(s, 0),
     }
 }
 
@@ -176,12 +162,11 @@ fn part_right(part: &[u8], identifier: Identifier) -> bool
     ensures { result ≡ part_right identifier part.now }
 {
     match identifier {
-        Identifier::Intc => true,
-        Identifier::Nore => true,
+        Identifier::Intc | Identifier::Nore => true,
         Identifier::Lei(_) => lei_shaped(part),
-        Identifier::Ccpt(_) => text::run_of(part, Class::Printable, 1, 35),
-        Identifier::Concat(_) => text::run_of(part, Class::Printable, 1, 35),
-        Identifier::Nidn(_) => text::run_of(part, Class::Printable, 1, 35),
+        Identifier::Ccpt(_) | Identifier::Concat(_) | Identifier::Nidn(_) => {
+            text::run_of(part, Class::Printable, 1, 35)
+        }
         Identifier::Mic(_) => mic_shaped(part),
         Identifier::Algo(_) => text::run_of(part, Class::Alphanumeric, 1, 50),
         Identifier::Malformed => false,
@@ -191,17 +176,10 @@ fn part_right(part: &[u8], identifier: Identifier) -> bool
 pub fn is_person(identifier: Identifier) -> bool
     ensures { result ≡ is_person identifier }
 {
-    match identifier {
-        Identifier::Ccpt(_) => true,
-        Identifier::Concat(_) => true,
-        Identifier::Nidn(_) => true,
-        Identifier::Intc => false,
-        Identifier::Nore => false,
-        Identifier::Lei(_) => false,
-        Identifier::Mic(_) => false,
-        Identifier::Algo(_) => false,
-        Identifier::Malformed => false,
-    }
+    matches!(
+        identifier,
+        Identifier::Ccpt(_) | Identifier::Concat(_) | Identifier::Nidn(_)
+    )
 }
 
 // The person shape of the part; none but a person identifier has it.
@@ -209,15 +187,9 @@ pub fn person_shaped(part: &[u8], identifier: Identifier) -> bool
     ensures { result ≡ person_shaped identifier part.now }
 {
     match identifier {
-        Identifier::Ccpt(_) => number_shaped(part),
+        Identifier::Ccpt(_) | Identifier::Nidn(_) => number_shaped(part),
         Identifier::Concat(_) => concat_shaped(part),
-        Identifier::Nidn(_) => number_shaped(part),
-        Identifier::Intc => false,
-        Identifier::Nore => false,
-        Identifier::Lei(_) => false,
-        Identifier::Mic(_) => false,
-        Identifier::Algo(_) => false,
-        Identifier::Malformed => false,
+        _ => false,
     }
 }
 
@@ -248,79 +220,29 @@ pub fn parse_party(s: &[u8], allowed: Allowed) -> Party
 pub fn is_lei(identifier: Identifier) -> bool
     ensures { result ≡ is_lei identifier }
 {
-    match identifier {
-        Identifier::Lei(_) => true,
-        Identifier::Intc => false,
-        Identifier::Nore => false,
-        Identifier::Ccpt(_) => false,
-        Identifier::Concat(_) => false,
-        Identifier::Nidn(_) => false,
-        Identifier::Mic(_) => false,
-        Identifier::Algo(_) => false,
-        Identifier::Malformed => false,
-    }
+    matches!(identifier, Identifier::Lei(_))
 }
 
 pub fn is_mic(identifier: Identifier) -> bool
     ensures { result ≡ is_mic identifier }
 {
-    match identifier {
-        Identifier::Mic(_) => true,
-        Identifier::Intc => false,
-        Identifier::Nore => false,
-        Identifier::Lei(_) => false,
-        Identifier::Ccpt(_) => false,
-        Identifier::Concat(_) => false,
-        Identifier::Nidn(_) => false,
-        Identifier::Algo(_) => false,
-        Identifier::Malformed => false,
-    }
+    matches!(identifier, Identifier::Mic(_))
 }
 
 pub fn is_concat(identifier: Identifier) -> bool
     ensures { result ≡ is_concat identifier }
 {
-    match identifier {
-        Identifier::Concat(_) => true,
-        Identifier::Intc => false,
-        Identifier::Nore => false,
-        Identifier::Lei(_) => false,
-        Identifier::Ccpt(_) => false,
-        Identifier::Nidn(_) => false,
-        Identifier::Mic(_) => false,
-        Identifier::Algo(_) => false,
-        Identifier::Malformed => false,
-    }
+    matches!(identifier, Identifier::Concat(_))
 }
 
 pub fn is_nidn(identifier: Identifier) -> bool
     ensures { result ≡ is_nidn identifier }
 {
-    match identifier {
-        Identifier::Nidn(_) => true,
-        Identifier::Intc => false,
-        Identifier::Nore => false,
-        Identifier::Lei(_) => false,
-        Identifier::Ccpt(_) => false,
-        Identifier::Concat(_) => false,
-        Identifier::Mic(_) => false,
-        Identifier::Algo(_) => false,
-        Identifier::Malformed => false,
-    }
+    matches!(identifier, Identifier::Nidn(_))
 }
 
 pub fn is_malformed(identifier: Identifier) -> bool
     ensures { result ≡ is_malformed identifier }
 {
-    match identifier {
-        Identifier::Malformed => true,
-        Identifier::Intc => false,
-        Identifier::Nore => false,
-        Identifier::Lei(_) => false,
-        Identifier::Ccpt(_) => false,
-        Identifier::Concat(_) => false,
-        Identifier::Nidn(_) => false,
-        Identifier::Mic(_) => false,
-        Identifier::Algo(_) => false,
-    }
+    matches!(identifier, Identifier::Malformed)
 }

@@ -12,7 +12,7 @@ choice_small : (t : Bool) {x y n : ℕ} → x ≤ n → y ≤ n → cond t x y �
 choice_small true h k = h
 choice_small false h k = k
 
-century_small : (m : ℕ) → century m ≤ 2200
+pub century_small : (m : ℕ) → century m ≤ 2200
 unfolding century
 century_small m =
     choice_small (within 81 92 m) (omega arith)
@@ -20,9 +20,6 @@ century_small m =
     (choice_small (within 21 32 m) (omega arith)
     (choice_small (within 41 52 m) (omega arith)
     (choice_small (within 61 72 m) (omega arith) (omega arith)))))
-
-pub to_2200 : (m : ℕ) {n : ℕ} → n ≡ century m → n ≤ 2200
-to_2200 m e = rw e (century_small m)
 
 -- a test that all numbers below n meet
 abbrev all_below : (ℕ → Bool) → ℕ → Bool

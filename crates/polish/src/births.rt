@@ -3,28 +3,22 @@ ghost use Rattle.std.specs.Prelude.{◌≡◌};
 ghost use Rattle.polish.specs.Birth.{century, birth_day, is_birth};
 
 // By the month's two digits; 0 where they name no month.
+#[tactic(auto, unfolding(crate::specs::Birth::century))]
 fn century(month: u32) -> u32
     ensures { result ≡ century month }
 {
-    if (81 <= month) & (month <= 92) {
-        return 1800;
+    match month {
+        81..=92 => 1800,
+        1..=12 => 1900,
+        21..=32 => 2000,
+        41..=52 => 2100,
+        61..=72 => 2200,
+        _ => 0,
     }
-    if (1 <= month) & (month <= 12) {
-        return 1900;
-    }
-    if (21 <= month) & (month <= 32) {
-        return 2000;
-    }
-    if (41 <= month) & (month <= 52) {
-        return 2100;
-    }
-    if (61 <= month) & (month <= 72) {
-        return 2200;
-    }
-    0
 }
 
 // The day that the first six digits name, real or not.
+#[tactic(auto, using(text::proofs::NumberLaws::two_small, crate::proofs::CenturyLaws::century_small), unfolding(crate::specs::Birth::birth_day))]
 pub fn birth_day(s: &[u8]) -> u32
     ensures { result ≡ birth_day s.now }
 {
@@ -35,6 +29,7 @@ pub fn birth_day(s: &[u8]) -> u32
 }
 
 // They name a real day of 1800 to 2299.
+#[tactic(auto, unfolding(crate::specs::Birth::is_birth))]
 pub fn is_birth(s: &[u8]) -> bool
     ensures { result ≡ is_birth s.now }
 {

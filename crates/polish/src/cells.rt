@@ -16,6 +16,7 @@ pub struct Polish {
 }
 
 // A NIDN of the person shape, with country PL.
+#[tactic(auto, unfolding(crate::specs::Cells::is_polish))]
 fn is_polish(party: Party, s: &[u8]) -> bool
     ensures { result ≡ is_polish party s.now }
 {
@@ -24,6 +25,7 @@ fn is_polish(party: Party, s: &[u8]) -> bool
 }
 
 // Of what follows PL.
+#[tactic(auto, unfolding(crate::specs::Cells::number_gives, crate::specs::Cells::neither, crate::specs::Cells::wrong_digit, crate::specs::Cells::other_day))]
 fn number_gives(n: &[u8], dated: bool, day: u32) -> Polish
     ensures { result ≡ number_gives n.now dated day }
 {
@@ -38,6 +40,7 @@ fn number_gives(n: &[u8], dated: bool, day: u32) -> Polish
 
 // Of a cell, by the party that was read of it. `dated` says that its date cell is present, which writes `day`. Few cells hold a Polish
 // number, so the others are let go at once.
+#[tactic(auto, unfolding(crate::specs::Cells::polish_of, crate::specs::Cells::form_wrong, crate::specs::Cells::check_wrong, crate::specs::Cells::born_wrong, crate::specs::Cells::number_gives))]
 pub fn polish_of(party: Party, s: &[u8], dated: bool, day: u32) -> Polish
     ensures { result ≡ polish_of party s.now dated day }
 {

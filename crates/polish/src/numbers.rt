@@ -8,15 +8,14 @@ fn weighed_by(s: &[u8], weights: &[u8], by: u32) -> u32
     ensures { result ≡ weighed weights.now s.now % by }
 {
     let mut sum = 0;
-    let mut i = 0;
-    while i < weights.len() {
+    for i in 0..weights.len() {
         sum += text::digit_of(weights[i]) * text::digit_of(text::byte_at(s, i));
-        i += 1;
     }
     sum % by
 }
 
 // What the sum lacks to the next multiple of ten is the check digit.
+#[tactic(auto, unfolding(crate::specs::Numbers::pesel_right))]
 pub fn pesel_right(s: &[u8]) -> bool
     ensures { result ≡ pesel_right s.now }
 {
@@ -24,6 +23,7 @@ pub fn pesel_right(s: &[u8]) -> bool
 }
 
 // The remainder itself is the check digit, and 10 is none.
+#[tactic(auto, unfolding(crate::specs::Numbers::nip_right))]
 pub fn nip_right(s: &[u8]) -> bool
     ensures { result ≡ nip_right s.now }
 {

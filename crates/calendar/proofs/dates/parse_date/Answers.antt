@@ -1,19 +1,13 @@
-use Prim.Native.Nat.{ℕ}
-use mathlib.Core.Path.{◌≡◌, ◌∙◌, refl, sym, ap}
-use mathlib.Core.Bool.{Bool, true, false, cond}
+use mathlib.Core.Path.{◌∙◌, refl, sym, ap}
+use mathlib.Core.Bool.{cond}
 use Rattle.std.specs.Prelude.{Some, None}
-use Rattle.std.specs.Bool.{then_some}
 use Rattle.text.specs.Ascii.{ascii}
 use Rattle.calendar.specs.Day.{is_day}
 use Rattle.calendar.specs.Dates.{date_of}
 use Rattle.calendar.specs.Places.{date_places}
+use Rattle.calendar.proofs.Options.{then_some-cond}
 use Rattle.calendar.proofs.PlaceLaws.{by_pattern}
 use Rattle.calendar.proofs.dates.parse_date.Goals as goal
-
--- a value where the test holds, as both put it
-then_some-cond : (b : Bool) (n : ℕ) → then_some b n ≡ cond b (Some n) None
-then_some-cond true n = refl
-then_some-cond false n = refl
 
 pub returns-then-not-shaped : goal.returns-then-not-shaped
 unfolding date_of
