@@ -18,10 +18,7 @@ pub fn lei_shaped(s: &[u8]) -> bool
 pub fn mic_shaped(s: &[u8]) -> bool
     ensures { result ≡ mic_shaped s.now }
 {
-    if s.len() != 4 {
-        return false;
-    }
-    text::all_within(s, 0, 4, Class::CapitalDigit)
+    text::shaped(s, b"nnnn")
 }
 
 // The number with the digits of a character behind k: a letter writes two. In 64 bits there is room for 17 digits behind a
@@ -59,14 +56,13 @@ fn with_last(k: u64, s: &[u8]) -> u64
     ensures { result ≡ decimal k (written_digits s.now) }
 {
     let mut v = k;
-    let mut i = 0;
+    let mut start = 0;
     if 4 <= s.len() {
         v = with_four(k, s, 0);
-        i = 4;
+        start = 4;
     }
-    while i < s.len() {
+    for i in start..s.len() {
         v = behind(v, s[i]);
-        i += 1;
     }
     v
 }
@@ -76,13 +72,12 @@ fn with_last(k: u64, s: &[u8]) -> u64
 pub fn lei_remainder(s: &[u8]) -> u32
     ensures { result ≡ written s.now % 97 }
 {
+    let eights = s.len() / 8;
     let mut k: u64 = 0;
-    let mut i = 0;
-    while 8 <= s.len() - i {
-        k = with_four(with_four(k, s, i), s, i + 4) % 97;
-        i += 8;
+    for n in 0..eights {
+        k = with_four(with_four(k, s, 8 * n), s, 8 * n + 4) % 97;
     }
-    (with_last(k, text::rest(s, i)) % 97) as u32
+    (with_last(k, text::rest(s, 8 * eights)) % 97) as u32
 }
 
 pub fn lei_right(s: &[u8]) -> bool

@@ -5,7 +5,6 @@ ghost use Rattle.ident.specs.Codes.{double_add_double, isin_shaped, isin_right};
 ghost use Rattle.ident.specs.Written.{digits_of, written_digits};
 
 use crate::characters::value_of;
-use text::Class;
 
 // Read from the left it is open which digits will be doubled, so both sums are kept, by 10.
 #[derive(Clone, Copy)]
@@ -39,12 +38,7 @@ fn with_value(x: Sums, value: u32) -> Sums
 pub fn isin_shaped(s: &[u8]) -> bool
     ensures { result ≡ isin_shaped s.now }
 {
-    if s.len() != 12 {
-        return false;
-    }
-    text::all_within(s, 0, 2, Class::Capital)
-        & text::all_within(s, 2, 11, Class::CapitalDigit)
-        & text::all_within(s, 11, 12, Class::Digit)
+    text::shaped(s, b"uunnnnnnnnnd")
 }
 
 // By 10, of the sum that the check takes: 0 where the check digit is right.
@@ -52,10 +46,8 @@ pub fn isin_remainder(s: &[u8]) -> u32
     ensures { result ≡ double_add_double (written_digits s.now) % 10 }
 {
     let mut x = Sums { plain: 0, twice: 0 };
-    let mut i = 0;
-    while i < s.len() {
-        x = with_value(x, value_of(s[i]));
-        i += 1;
+    for b in s {
+        x = with_value(x, value_of(*b));
     }
     x.plain
 }

@@ -9,33 +9,31 @@ use borrow.Author.Tests.{eq-eqb, ne_eqb, lt-ltb, le-ltb, ltb-true, ltb-false}
 use lib.Dec.{ltb}
 use lib.ListN.{length, get_or, take, drop, length-drop, drop_of_length-le}
 use lib.Seq.{take-nil, take_all, drop-drop}
+use Rattle.std.specs.List.{position, position_or_len}
+use Rattle.std.specs.Prelude.{unwrap_or}
+use Rattle.std.proofs.lemmas.List.Recursion.{is_position_or_len}
 use Rattle.text.proofs.Bools.{by_test}
 use Rattle.text.proofs.Lists.{rest_at}
 use Rattle.cells.specs.Cells.{is_bar, first_cell, later_cells, cells_of}
 use Rattle.reader.specs.Reading.{is_over, cell_from, place_after, handed}
 
--- what the byte at a place says of the cell there
-module _ (s : List ℕ) (i : ℕ) (h : i < length s) where
-  pub first_bar : get_or s i 0 ≡ 124 → first_cell (drop i s) ≡ []
-  first_bar e = rw (rest_at 0 s i h, eq-eqb _ _ e)
+-- the first cell is as long as the place of the first bar says
+first_length : (s : List ℕ) → length (first_cell s) ≡ position_or_len is_bar s
+first_length s = is_position_or_len (λ l. length (first_cell l)) is_bar refl (λ b l. by_test (is_bar b) (λ t. rw t) (λ t. rw t (omega arith))) s
 
-  pub first_other : (get_or s i 0 ≡ 124 → ⊥) → length (first_cell (drop i s)) ≡ length (first_cell (drop (i + 1) s)) + 1
-  first_other e = ap (λ (l : List ℕ). length (first_cell l)) (rest_at 0 s i h) ∙ rw (ne_eqb (get_or s i 0) 124 e, add-one (length (first_cell (drop (i + 1) s))))
+pub first_short : (s : List ℕ) → length (first_cell s) ≤ length s
+first_short [] = omega arith
+first_short (b ∷ s) = by_test (is_bar b) (λ t. rw t (omega arith)) (λ t. rw t (omega (arith, first_short s)))
+
+pub cell_until : (s : List ℕ) → unwrap_or (position is_bar s) (length s) ≡ length (first_cell s)
+cell_until s =
+    by_test
+    (ltb (position_or_len is_bar s) (length s))
+    (λ t. rw t (sym (first_length s)))
+    (λ t. rw t (omega (arith, first_length s, first_short s, ltb-false (position_or_len is_bar s) (length s) t)))
 
 pub first_end : (s : List ℕ) (i : ℕ) → length s ≤ i → first_cell (drop i s) ≡ []
 first_end s i h = rw (drop_of_length-le s h)
-
--- where a walk from a place stops, at a bar or at the end, the next place is one behind
-module _ (line : List ℕ) (at end : ℕ) (begun : at ≤ length line) (same : end + length (first_cell (drop end line)) ≡ at + length (first_cell (drop at line))) where
-  stops_where : first_cell (drop end line) ≡ [] → end + 1 ≡ place_after line at
-  unfolding place_after is_over cell_from
-  stops_where there = rw (le-ltb _ _ begun) (omega (arith, same, ap length there))
-
-  pub stops_at_bar : end < length line → get_or line end 0 ≡ 124 → end + 1 ≡ place_after line at
-  stops_at_bar h e = stops_where (first_bar line end h e)
-
-  pub stops_at_end : length line ≤ end → end + 1 ≡ place_after line at
-  stops_at_end h = stops_where (first_end line end h)
 
 -- a cell is the part of the line that is as long as it
 pub first_is_part : (s : List ℕ) → take (length (first_cell s)) s ≡ first_cell s

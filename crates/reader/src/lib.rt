@@ -4,7 +4,8 @@
 // for a host that wants them one after another, of any number.
 #![tactic(auto)]
 
-ghost use Rattle.std.specs.Prelude.{◌≡◌, ◌-◌, take, drop};
+ghost use Rattle.std.specs.Prelude.{◌≡◌, ◌-◌, take, drop, length, position};
+ghost use Rattle.cells.specs.Cells.{is_bar, first_cell};
 ghost use Rattle.reader.specs.Reading.{begun, cell_from, place_after, is_over, Stepped, step_from};
 
 // A line, and the place in it where the next cell starts.
@@ -15,7 +16,8 @@ pub struct Reader<'a> {
 }
 
 // What a step hands back: the cell as a part of the line and the place after its bar, which after the last cell is the line's
-// length + 1. Done is a step from a place over the length: its cell is blank, and the place stays.
+// length + 1. Done is a step from a place over the length: its cell is blank, and the place stays. So the three stand side by side,
+// and not as an Option: of a step that is done the contract determines cell and place too (`step_determined`).
 #[derive(Clone, Copy)]
 pub struct Taken<'a> {
     pub cell: &'a [u8],
@@ -29,24 +31,36 @@ pub fn new<'a>(line: &'a [u8]) -> Reader<'a>
     Reader { line, at: 0 }
 }
 
+#[tactic(auto, unfolding(crate::specs::Reading::is_over))]
 pub fn is_done(line: &[u8], at: usize) -> bool
     ensures { result ≡ is_over line.now at }
 {
     line.len() < at
 }
 
-#[tactic(auto, using(crate::proofs::ReadingLaws::first_other, crate::proofs::ReadingLaws::stops_at_bar, crate::proofs::ReadingLaws::stops_at_end))]
+// Where the first bar stands.
+fn bar_in(s: &[u8]) -> Option<usize>
+    ensures { result ≡ position is_bar s.now }
+{
+    s.iter().position(|&b| b == b'|')
+}
+
+// How long the first cell is: it ends at the first bar, or with the line.
+#[tactic(auto, using(crate::proofs::ReadingLaws::cell_until))]
+fn cell_length(s: &[u8]) -> usize
+    ensures { result ≡ length (first_cell s.now) }
+{
+    bar_in(s).unwrap_or(s.len())
+}
+
+#[tactic(auto, using(crate::proofs::ReadingLaws::first_short), unfolding(crate::specs::Reading::place_after, crate::specs::Reading::is_over, crate::specs::Reading::cell_from))]
 pub fn place_after(line: &[u8], at: usize) -> usize
     ensures { result ≡ place_after line.now at }
 {
     if line.len() < at {
         return at;
     }
-    let mut end = at;
-    while end < line.len() && line[end] != b'|' {
-        end += 1;
-    }
-    end + 1
+    at + cell_length(&line[at..]) + 1
 }
 
 // The bytes from a place up to the bar that stands before `next`.
@@ -72,11 +86,11 @@ pub fn step<'a>(r: Reader<'a>) -> Taken<'a>
 pub fn first(line: &[u8]) -> &[u8]
     ensures { result.now ≡ cell_from line.now 0 }
 {
-    let taken = step(new(line));
-    taken.cell
+    step(new(line)).cell
 }
 
-// A step in numbers, for callers that hold no reader: how long the cell at a place is, the next place, and whether none is left.
+// A step in numbers, for callers that hold no reader: how long the cell at a place is, the next place, and whether none is left. As in a
+// step, `step_from` determines all three where none is left.
 #[derive(Clone, Copy)]
 pub struct StepFrom {
     pub length: usize,

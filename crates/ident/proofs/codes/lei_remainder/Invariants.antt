@@ -1,10 +1,6 @@
-use Prim.Native.Nat.{◌-◌}
-use lib.ListN.{length}
+use Prim.Native.Nat.{◌*◌}
 use Rattle.ident.proofs.RemainderLaws.{LeftSoFar}
 use Rattle.ident.proofs.codes.lei_remainder.Given as goal
 
-abbrev pub invariant-loop-i : goal.invariant-loop-i
-invariant-loop-i l = LeftSoFar l.s l.k l.i
-
-abbrev pub decreases-loop-i : goal.decreases-loop-i
-decreases-loop-i l = length l.s - l.i
+abbrev pub invariant-loop-n : goal.invariant-loop-n
+invariant-loop-n l = LeftSoFar l.s l.k (8 * l.n)

@@ -5,8 +5,8 @@ use Rattle.ident.proofs.codes.with_last.Goals.{then-s-ge4, else-s-ge4}
 
 pub loop-i-init : goal.loop-i-init
 loop-i-init c = elim c.if-s-ge4.branch [
-  | then-s-ge4 w ↦ rw (w.v-is, w.i-is) (record { within = w.if-s-ge4.true; so_far = w.with_four-v.ensures })
-  | else-s-ge4 w ↦ rw (w.v-is, w.i-is) behind_none
+  | then-s-ge4 w ↦ rw (w.v-is, w.start-is) (record { within = w.if-s-ge4.true; so_far = w.with_four-v.ensures })
+  | else-s-ge4 w ↦ rw (w.v-is, w.start-is) behind_none
 ]
 
 pub behind-v-requires : goal.behind-v-requires
