@@ -6,6 +6,8 @@ ghost use Rattle.ident.specs.Written.{value_of, digits_of, written_digits, decim
 use crate::characters::added_value;
 use text::Class;
 
+// A LEI and a MIC are asked run by run: by its pattern (`text::shaped`) a MIC takes 16 instructions more, and what is longer than ten bytes
+// several times as many, since the turns over it are not unrolled.
 pub fn lei_shaped(s: &[u8]) -> bool
     ensures { result ≡ lei_shaped s.now }
 {
@@ -18,7 +20,10 @@ pub fn lei_shaped(s: &[u8]) -> bool
 pub fn mic_shaped(s: &[u8]) -> bool
     ensures { result ≡ mic_shaped s.now }
 {
-    text::shaped(s, b"nnnn")
+    if s.len() != 4 {
+        return false;
+    }
+    text::all_within(s, 0, 4, Class::CapitalDigit)
 }
 
 // The number with the digits of a character behind k: a letter writes two. In 64 bits there is room for 17 digits behind a
@@ -67,7 +72,7 @@ fn with_last(k: u64, s: &[u8]) -> u64
     v
 }
 
-// By 97, of the number that the characters write. One division takes eight of them: they are 16 digits at most, and nine
+// By 97, of the number that the characters write. Counted by eights, since the law of what is left (`left_on`) is over places. One division takes eight of them: they are 16 digits at most, and nine
 // could be 18.
 pub fn lei_remainder(s: &[u8]) -> u32
     ensures { result ≡ written s.now % 97 }

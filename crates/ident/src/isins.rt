@@ -5,6 +5,7 @@ ghost use Rattle.ident.specs.Codes.{double_add_double, isin_shaped, isin_right};
 ghost use Rattle.ident.specs.Written.{digits_of, written_digits};
 
 use crate::characters::value_of;
+use text::Class;
 
 // Read from the left it is open which digits will be doubled, so both sums are kept, by 10.
 #[derive(Clone, Copy)]
@@ -35,10 +36,16 @@ fn with_value(x: Sums, value: u32) -> Sums
     with_digit(with_digit(x, value / 10), value % 10)
 }
 
+// Run by run: by its pattern (`text::shaped`) an ISIN takes some 200 instructions more, since twelve turns are not unrolled.
 pub fn isin_shaped(s: &[u8]) -> bool
     ensures { result ≡ isin_shaped s.now }
 {
-    text::shaped(s, b"uunnnnnnnnnd")
+    if s.len() != 12 {
+        return false;
+    }
+    text::all_within(s, 0, 2, Class::Capital)
+        & text::all_within(s, 2, 11, Class::CapitalDigit)
+        & text::all_within(s, 11, 12, Class::Digit)
 }
 
 // By 10, of the sum that the check takes: 0 where the check digit is right.

@@ -95,7 +95,8 @@ pub fn allowed59() -> Allowed
     }
 }
 
-// The kind that the cell's word names, allowed or not.
+// The kind that the cell's word names, allowed or not. Eight tests against constant words, which a compiler folds; a table of words and kinds
+// would need a walk and a test for whole words besides, and is no plainer.
 #[tactic(auto, unfolding(crate::specs::Party::named))]
 fn named(s: &[u8]) -> Identifier
     ensures { result ≡ named s.now }

@@ -4,6 +4,7 @@ ghost use Rattle.ident.specs.Person.{concat_shaped, after_country, number_shaped
 
 use text::Class;
 
+// Run by run, as a LEI (`lei_shaped` in codes).
 pub fn concat_shaped(s: &[u8]) -> bool
     ensures { result ≡ concat_shaped s.now }
 {
@@ -19,6 +20,7 @@ pub fn concat_shaped(s: &[u8]) -> bool
 }
 
 // The class of what follows the two letters.
+#[tactic(auto, unfolding(crate::specs::Person::after_country))]
 fn after_country(s: &[u8]) -> Class
     ensures { result ≡ after_country s.now }
 {
@@ -32,6 +34,7 @@ fn after_country(s: &[u8]) -> Class
 }
 
 // The number of a passport or of a register, as CCPT and NIDN have it.
+#[tactic(auto, unfolding(crate::specs::Person::number_shaped))]
 pub fn number_shaped(s: &[u8]) -> bool
     ensures { result ≡ number_shaped s.now }
 {
@@ -43,6 +46,7 @@ pub fn number_shaped(s: &[u8]) -> bool
 }
 
 // The first two characters if both are capitals, else nothing.
+#[tactic(auto, unfolding(crate::specs::Person::country_of))]
 pub fn country_of(s: &[u8]) -> &[u8]
     ensures { result.now ≡ country_of s.now }
 {
