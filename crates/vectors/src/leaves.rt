@@ -1,8 +1,6 @@
 // Bytes, code points and days.
 use crate::reading::{number, unhex, word};
-use calendar::{Date, Moment, When};
 use text::Class;
-use utf8::Points;
 
 fn class_named(name: &[u8]) -> Class {
     match name {
@@ -51,42 +49,24 @@ pub fn of_text(call: &[u8], input: &[u8]) -> Option<u64> {
     of_bytes(call, input)
 }
 
-fn points_in(bytes: &[u8]) -> Option<usize> {
-    match utf8::code_points(bytes) {
-        Points::Count(count) => Some(count),
-        Points::Malformed => None,
-    }
-}
-
 // points on bytes in hexadecimal, 999 where they are malformed; within.N on a text.
 pub fn of_utf8(call: &[u8], input: &[u8]) -> Option<u64> {
     if text::same(call, b"points") {
-        return Some(points_in(unhex(input).as_slice()).unwrap_or(999) as u64);
+        return Some(utf8::code_points(unhex(input).as_slice()).unwrap_or(999) as u64);
     }
     let most = call.strip_prefix(b"within.")?;
     Some(u64::from(utf8::points_within(input, number(most) as usize)))
 }
 
-fn day_in(cell: &[u8]) -> Option<u32> {
-    match calendar::parse_date(cell) {
-        Date::On(day) => Some(day),
-        Date::Malformed => None,
-    }
-}
-
-fn moment_in(cell: &[u8]) -> Option<Moment> {
-    match calendar::parse_moment(cell) {
-        When::At(moment) => Some(moment),
-        When::Malformed => None,
-    }
-}
-
 // date on a cell, moment_day and moment_micro on one; 0 where it is malformed.
 fn of_cell(call: &[u8], input: &[u8]) -> Option<u64> {
     match call {
-        b"date" => Some(day_in(input).map_or(0, u64::from)),
-        b"moment_day" => Some(moment_in(input).map_or(0, |moment| u64::from(moment.day))),
-        b"moment_micro" => Some(moment_in(input).map_or(0, |moment| moment.micro)),
+        b"date" => Some(calendar::parse_date(input).map_or(0, u64::from)),
+        b"moment_day" => Some(calendar::parse_moment(input).map_or(
+            0,
+            |moment| u64::from(moment.day),
+        )),
+        b"moment_micro" => Some(calendar::parse_moment(input).map_or(0, |moment| moment.micro)),
         _ => None,
     }
 }

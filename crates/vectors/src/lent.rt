@@ -3,7 +3,7 @@ ghost use Rattle.std.specs.Prelude.{◌≤◌};
 
 use crate::reading::{number, parted, unhex, word};
 use lists::Mark;
-use register::{Found, Standing};
+use register::Standing;
 
 fn mark_named(name: &[u8]) -> Mark {
     match name {
@@ -57,13 +57,6 @@ pub fn of_lists(call: &[u8], input: &[u8]) -> Option<u64> {
         return Some(looked_up(mark, list, key.as_slice(), day));
     }
     None
-}
-
-fn row_number(found: Found) -> u64 {
-    match found {
-        Found::At(row) => row as u64,
-        Found::Nowhere => 99,
-    }
 }
 
 fn state_number(standing: Standing) -> u64
@@ -137,7 +130,8 @@ pub fn of_register(call: &[u8], input: &[u8]) -> Option<u64> {
         return Some(u64::from(text::same(lent, &pair)));
     }
     if text::starts_with(call, b"stands.") {
-        let row = row_number(register::find(lent, register::row_width(lent), &pair)) % 100;
+        let found = register::find(lent, register::row_width(lent), &pair);
+        let row = found.map_or(99, |row| row as u64) % 100;
         return Some(row * 10 + state_number(register::standing_of(lent, &pair)));
     }
     of_head(call, lent)

@@ -37,12 +37,7 @@ fn told(flags: &[bool; 65]) -> u64 {
 
 // The form findings of a line; 10, as the refusal, where it has not 65 cells.
 fn found_in(line: &[u8]) -> u64 {
-    let table = cells::split(line);
-    if !table.whole {
-        return 10;
-    }
-    let flags = forms::form_findings(line, &table.starts, &table.ends);
-    told(&flags)
+    cells::split(line).map_or(10, |split| told(&forms::form_findings(&split)))
 }
 
 // The last of the cells that a call names: the only one, where it names one.
@@ -85,14 +80,10 @@ pub fn of_forms(call: &[u8], input: &[u8]) -> Option<u64> {
 
 // Whether cell f of a line of 65 is the word.
 fn is_cell(line: &[u8], f: usize, bytes: &[u8]) -> bool {
-    let table = cells::split(line);
-    if !table.whole {
-        return false;
-    }
-    text::same(cells::cell(line, &table.starts, &table.ends, f), bytes)
+    cells::split(line).is_some_and(|split| text::same(split.cell(f), bytes))
 }
 
-// A place out of the table of starts or of ends.
+// A place out of the table of starts or of ends, which are zero for a line that has not 65 cells.
 fn place_in(table: &[usize; 65], f: usize) -> Option<u64> {
     let place = table.get(f.checked_sub(1)?)?;
     Some(*place as u64)
@@ -101,15 +92,15 @@ fn place_in(table: &[usize; 65], f: usize) -> Option<u64> {
 // whole, start.F, end.F and cell.F.WORD on a line.
 pub fn of_cells(call: &[u8], input: &[u8]) -> Option<u64> {
     let f = number(word(call, 1)) as usize;
-    let table = cells::split(input);
+    let split = cells::split(input);
     if text::same(call, b"whole") {
-        return Some(u64::from(table.whole));
+        return Some(u64::from(split.is_some()));
     }
     if text::starts_with(call, b"start.") {
-        return place_in(&table.starts, f);
+        return place_in(&split.map_or([0; 65], |split| split.starts), f);
     }
     if text::starts_with(call, b"end.") {
-        return place_in(&table.ends, f);
+        return place_in(&split.map_or([0; 65], |split| split.ends), f);
     }
     if text::starts_with(call, b"cell.") {
         return Some(u64::from(is_cell(input, f, word(call, 2))));

@@ -2,7 +2,7 @@
 ghost use Rattle.std.specs.Prelude.{◌≤◌};
 
 use crate::reading::word;
-use amount::{Decimal, Price, Quantity, Signed};
+use amount::{Decimal, Price, Quantity};
 use ident::{Allowed, Identifier, Party};
 
 fn kind_number(identifier: Identifier) -> u64
@@ -90,13 +90,6 @@ fn price_decimal(price: Price) -> Option<Decimal> {
     }
 }
 
-fn signed_decimal(signed: Signed) -> Option<Decimal> {
-    match signed {
-        Signed::Amount(d) => Some(d),
-        Signed::Malformed => None,
-    }
-}
-
 fn quantity_decimal(quantity: Quantity) -> Option<Decimal> {
     match quantity {
         Quantity::Units(d) | Quantity::Nominal(d) | Quantity::Monetary(d) => Some(d),
@@ -149,7 +142,7 @@ fn of_signed(call: &[u8], input: &[u8]) -> Option<u64> {
         return Some(u64::from(amount::signed_kind(signed) != 0));
     }
     if text::starts_with(call, b"signed_is.") {
-        return Some(u64::from(is_as_called(signed_decimal(signed), call)));
+        return Some(u64::from(is_as_called(signed, call)));
     }
     of_quantity(call, input)
 }
