@@ -9,7 +9,7 @@ ghost use Rattle.judge.specs.Outcome.{outcome, Judged};
 ghost use Rattle.summary.specs.Judged.{line_of};
 ghost use Rattle.summary.specs.Noting.{note_of, Noting};
 
-use summary::{Noted, Record, counted, entered, judged_line, reach, stops};
+use summary::{Noted, Record};
 use verdict::Verdict;
 
 // Polish identifiers are judged where `polish` is any number but 0.
@@ -50,8 +50,7 @@ pub fn boanhetri_convert(from: &[u8], to: &mut [u8]) -> u16
     register::convert(from, to)
 }
 
-// Finds the record of the line's entity, or the first free one, and counts the line there; else in the common record. What is counted
-// and compared is in summary.
+// A judged line in the record of its entity, or in the first free one; else in the common record.
 pub fn boanhetri_note(
     records: &mut [Record],
     common: &mut Record,
@@ -60,24 +59,5 @@ pub fn boanhetri_note(
 ) -> Noted
     ensures { Noting (note_of records.old common.old (line_of line.now verdict)) result records.new common.new }
 {
-    let l = judged_line(line, verdict);
-    let n = reach(records.len(), l.entity);
-    let mut i = 0;
-    while i < n {
-        if stops(records[i].entity, l.entity) {
-            let c = entered(records[i], l);
-            records[i] = c.after;
-            return Noted {
-                common: false,
-                stuck: c.stuck,
-            };
-        }
-        i += 1;
-    }
-    let c = counted(*common, l);
-    *common = c.after;
-    Noted {
-        common: true,
-        stuck: c.stuck,
-    }
+    summary::note(records, common, line, verdict)
 }

@@ -4,6 +4,8 @@ use mathlib.Core.List.{List, [], ◌∷◌, ◌++◌, append-nil, append_assoc}
 use Prim.Native.Nat.{ℕ, zero, suc, ◌+◌, ◌≤◌, ◌<◌}
 use native.Mathlib.Numerals.{add-one}
 use native.Mathlib.Omega.{arith}
+use mathlib.Core.Bool.{true, false}
+use lib.Dec.{ltb}
 use lib.ListN.{length, take, get_or}
 use lib.Seq.{take_all}
 use borrow.Author.Tests.{lt-ltb, le-ltb, eq-eqb, ne_eqb}
@@ -12,35 +14,34 @@ use Rattle.buffer.specs.Kept.{Kept}
 use Rattle.buffer.proofs.KeptLaws.{keep_none}
 use Rattle.summary.specs.declared.Record.{Record}
 use Rattle.summary.specs.Noting.{free}
-use Rattle.table.specs.Rows.{Table, Rows, record_count, record_in, table_in}
-use Rattle.table.proofs.NoteLaws.{at_row}
+use Rattle.table.specs.declared.Table.{Table}
+use Rattle.table.specs.Rows.{record_count, record_at}
 use Rattle.printing.specs.Report.{record_text, firm_text, firm_texts, opening, common_text, summary_text, part_of, Put, Reporting, heads, row}
 
 put_as : {text text' before after : List ℕ} {n : ℕ} → text ≡ text' → Put text before after n → Put text' before after n
 put_as {before = before} {after = after} {n = n} e p =
     record { keeps = subst (λ (t : List ℕ). Kept before 0 t after n) e p.keeps; prints = λ room. p.prints room ∙ e }
 
-module _ {names numbers : List (List ℕ)} (rows : Rows names numbers) {i : ℕ} {r : Record} (is_row : r ≡ record_in (get_or names i []) (get_or numbers i [])) where
-  pub common_row : {before after : List ℕ} {n : ℕ} → i ≡ record_count → Put (common_text r) before after n → Put (part_of (table_in names numbers) i) before after n
-  unfolding part_of
-  common_row e =
-      put_as
-      (cond_no _ (le-ltb i record_count (omega arith))
-      (ap common_text (is_row ∙ ap (λ (k : ℕ). record_in (get_or names k []) (get_or numbers k [])) e)))
+module _ (t : Table) (i : ℕ) {r : Record} (is_row : r ≡ record_at t i) where
+  pub common_row : {before after : List ℕ} {n : ℕ} → record_count ≤ i → Put (common_text r) before after n → Put (part_of t i) before after n
+  unfolding part_of record_at
+  common_row h =
+      let past : ltb i record_count ≡ false = le-ltb i record_count h in
+      put_as (cond_no _ past (ap common_text (is_row ∙ rw past)))
 
-  module _ (below : i ≤ record_count) (not_last : i ≡ record_count → ⊥) where
-    firm_part : firm_text r ≡ part_of (table_in names numbers) i
-    unfolding part_of
+  module _ (inside : i < record_count) where
+    firm_part : firm_text r ≡ part_of t i
+    unfolding part_of record_at
     firm_part =
-        let inside : i < record_count = omega arith in
-        cond_yes _ (lt-ltb i record_count inside) (ap firm_text (is_row ∙ sym (at_row names numbers rows i inside)))
+        let below : ltb i record_count ≡ true = lt-ltb i record_count inside in
+        cond_yes _ below (ap firm_text (is_row ∙ rw below))
 
-    pub free_row : {out : List ℕ} → get_or r.entity 0 0 ≡ 0 → Put (part_of (table_in names numbers) i) out out 0
+    pub free_row : {out : List ℕ} → get_or r.entity 0 0 ≡ 0 → Put (part_of t i) out out 0
     unfolding firm_text
     free_row {out} e = put_as (cond_yes _ (eq-eqb (get_or r.entity 0 0) 0 e) refl ∙ firm_part) (record { keeps = keep_none out 0; prints = λ room. refl })
 
     pub firm_row : {before after : List ℕ} {n : ℕ} → (get_or r.entity 0 0 ≡ 0 → ⊥) → Put (record_text r.entity r) before after n
-        → Put (part_of (table_in names numbers) i) before after n
+        → Put (part_of t i) before after n
     unfolding firm_text
     firm_row e p = put_as (cond_no _ (ne_eqb (get_or r.entity 0 0) 0 e) refl ∙ firm_part) p
 

@@ -22,7 +22,7 @@ pub keep_answer_determined :
 keep_answer_determined κs a x y s t p q = kept_once p q
 
 pub keep_row_determined :
-    (κs : Lfts 3) (a : Dens κs keep_row_kinds.ps) (x y : (res_t keep_row_kinds.r κs).Denot)
-    (s t : AtExit (ended_of 3 keep_row_kinds.ps keep_row_kinds.r) κs)
+    (κs : Lfts 2) (a : Dens κs keep_row_kinds.ps) (x y : (res_t keep_row_kinds.r κs).Denot)
+    (s t : AtExit (ended_of 2 keep_row_kinds.ps keep_row_kinds.r) κs)
     → keep_row_reads.Post κs a x s → keep_row_reads.Post κs a y t → (x ≡ y) × (s.0.now ≡ t.0.now)
 keep_row_determined κs a x y s t p q = kept_once p.keeps q.keeps

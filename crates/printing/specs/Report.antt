@@ -7,7 +7,8 @@ use Rattle.buffer.specs.Kept.{Kept}
 use Rattle.summary.specs.declared.Record.{Record}
 use Rattle.summary.specs.Counting.{blank}
 use Rattle.summary.specs.Noting.{free}
-use Rattle.table.specs.Rows.{Table, record_count}
+use Rattle.table.specs.declared.Table.{Table}
+use Rattle.table.specs.Rows.{record_count}
 use Rattle.printing.specs.Printed.{decimal, spaced, longest}
 
 -- a code, a colon and its count, behind a space; nothing for a code that no line has

@@ -11,12 +11,6 @@ mod report;
 use buffer::{keep, keep_all};
 pub use report::keep_row;
 
-fn wide(x: u16) -> u64
-    ensures { result ≡ x }
-{
-    x as u64
-}
-
 fn keep_number(out: &mut [u8], kept: usize, n: u64) -> usize
     ensures { Kept out.old kept (decimal n) out.new result }
 {
@@ -36,10 +30,8 @@ fn keep_codes(out: &mut [u8], kept: usize, codes: &[u16]) -> usize
     ensures { Kept out.old kept (spaced codes.now) out.new result }
 {
     let mut n = kept;
-    let mut i = 0;
-    while i < codes.len() {
-        n = keep_spaced(out, n, wide(codes[i]));
-        i += 1;
+    for &code in codes {
+        n = keep_spaced(out, n, u64::from(code));
     }
     n
 }
@@ -48,19 +40,15 @@ fn keep_codes(out: &mut [u8], kept: usize, codes: &[u16]) -> usize
 pub fn listed(findings: &[u16], count: u16) -> &[u16]
     ensures { result.now ≡ take count findings.now }
 {
-    let n = count as usize;
-    if n <= findings.len() {
-        return &findings[..n];
-    }
-    findings
+    findings.get(..usize::from(count)).unwrap_or(findings)
 }
 
 pub fn keep_answer(out: &mut [u8], number: u64, answer: u16, count: u16, codes: &[u16]) -> usize
     ensures { Kept out.old 0 (printed number answer count codes.now) out.new result }
 {
     let numbered = keep_number(out, 0, number);
-    let answered = keep_spaced(out, numbered, wide(answer));
-    let counted = keep_spaced(out, answered, wide(count));
+    let answered = keep_spaced(out, numbered, u64::from(answer));
+    let counted = keep_spaced(out, answered, u64::from(count));
     let coded = keep_codes(out, counted, codes);
     keep(out, coded, b'\n')
 }

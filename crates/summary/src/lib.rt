@@ -1,7 +1,7 @@
 // The day's summary by firm: what one line adds to a record, and where the search for its record stops.
 //
 // The host lends a table of records, one for each executing entity, and a common record beside it. All that counts, compares or
-// chooses stands here, on plain data; the exported function, which finds the record and puts it back, is in capi.
+// chooses stands here, on plain data; `note` finds the record and puts it back.
 #![tactic(auto)]
 
 ghost use Rattle.std.specs.Prelude.{◌≡◌, true, false, ◌++◌, ◌≤◌, ◌<◌, length, get_or, replicate};
@@ -12,6 +12,9 @@ ghost use Rattle.summary.specs.Counting.{up, stuck, Raising, counted_of, blank, 
 ghost use Rattle.summary.specs.Judged.{names, entity_in, kind_of, of_no_entity, line_of};
 ghost use Rattle.summary.specs.Noting.{reach_of, stops_at};
 
+mod noting;
+
+pub use noting::note;
 use reader::{cell_before, place_after};
 use verdict::{CODE_COUNT, RULE_COUNT, Verdict};
 

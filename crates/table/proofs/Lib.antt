@@ -1,6 +1,2 @@
--- The laws behind the table, and of rows of zeros for the crates above.
-pub mod EmptyLaws
-mod RowLaws
-mod SearchLaws
-pub mod NoteLaws
+-- That each contract determines its answer.
 mod Unique

@@ -1,10 +1,7 @@
-use Rattle.printing.proofs.ReportLaws.{CountedSoFar}
-use Prim.Native.Nat.{◌-◌}
-use lib.ListN.{length}
+use Rattle.std.proofs.Common.{take, length}
+use Rattle.buffer.specs.Kept.{Kept}
+use Rattle.printing.specs.Report.{count_texts}
 use Rattle.printing.proofs.report.keep_counts.Given as goal
 
-abbrev pub invariant-loop-j : goal.invariant-loop-j
-invariant-loop-j l = CountedSoFar l.codes l.counts l.initial.out l.kept l.out l.n l.j
-
-abbrev pub decreases-loop-j : goal.decreases-loop-j
-decreases-loop-j l = length l.codes - l.j
+abbrev pub invariant-loop-code : goal.invariant-loop-code
+invariant-loop-code l = Kept l.initial.out l.kept (count_texts (take (length l.yielded) l.codes) (take (length l.yielded) l.counts)) l.out l.n
