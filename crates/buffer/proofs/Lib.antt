@@ -1,3 +1,4 @@
 -- The laws that the crates above cite.
 pub mod KeptLaws
+pub mod TextLaws
 mod Unique

@@ -1,2 +1,3 @@
 -- A buffer that is filled from its start.
 pub mod Kept
+pub mod Text

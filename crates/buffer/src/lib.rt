@@ -4,6 +4,10 @@
 ghost use Rattle.std.specs.Prelude.{[], ◌∷◌};
 ghost use Rattle.buffer.specs.Kept.{Kept};
 
+mod kept;
+
+pub use kept::Text;
+
 // Adds a byte to the first `kept`, and answers how many there are now.
 pub fn keep(buffer: &mut [u8], kept: usize, b: u8) -> usize
     ensures { Kept buffer.old kept (b ∷ []) buffer.new result }
@@ -19,10 +23,8 @@ pub fn keep_all(buffer: &mut [u8], kept: usize, bytes: &[u8]) -> usize
     ensures { Kept buffer.old kept bytes.now buffer.new result }
 {
     let mut n = kept;
-    let mut i = 0;
-    while i < bytes.len() {
-        n = keep(buffer, n, bytes[i]);
-        i += 1;
+    for &b in bytes {
+        n = keep(buffer, n, b);
     }
     n
 }

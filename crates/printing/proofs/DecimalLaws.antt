@@ -11,8 +11,9 @@ use borrow.Author.Tests.{lt-ltb, le-ltb, leb-true, leb-false}
 use Rattle.text.proofs.Bools.{by_test}
 use Rattle.io.specs.Digits.{last_digits, IsDigitCount, hex_digit_ascii}
 use Rattle.verdict.specs.Codes.{code_count}
-use Rattle.buffer.specs.Kept.{Kept}
-use Rattle.buffer.proofs.KeptLaws.{Joins, keep_then}
+use Rattle.buffer.specs.Text.{added}
+use Rattle.buffer.proofs.KeptLaws.{Joins}
+use Rattle.buffer.proofs.TextLaws.{added_on}
 use Rattle.printing.specs.Printed.{digits_of, decimal, spaced, printed, longest}
 
 glyph_digit : (n : ℕ) → hex_digit_ascii (n % 10) ≡ 48 + n % 10
@@ -60,10 +61,10 @@ spaced_join = record { none = refl; joined = go }
     go (x ∷ xs) ys = rw (go xs ys) (sym (append_assoc (32 ∷ decimal x) (spaced xs) (spaced ys)))
 
 -- a space, then the number
-pub spaced_one : {before mid after : List ℕ} {kept a n : ℕ} (x : ℕ) → Kept before kept (32 ∷ []) mid a → Kept mid a (decimal x) after n
-    → Kept before kept (spaced (x ∷ [])) after n
+pub spaced_one : (room : ℕ) (before : List ℕ) {mid after : List ℕ} (x : ℕ) → mid ≡ added room before (32 ∷ []) → after ≡ added room mid (decimal x)
+    → after ≡ added room before (spaced (x ∷ []))
 unfolding spaced
-spaced_one x p q = rw append-nil (keep_then p q)
+spaced_one room before x p q = rw append-nil (added_on room before (32 ∷ []) (decimal x) p q)
 
 -- no more digits than f, and so no more bytes than 21 for each number behind a space
 digits_short : (f n : ℕ) → length (digits_of f n) ≤ f

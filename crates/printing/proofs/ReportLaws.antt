@@ -1,5 +1,5 @@
 -- What the summary's functions put is its text, and there is room for each line of it.
-use mathlib.Core.Path.{◌≡◌, ◌∙◌, sym}
+use mathlib.Core.Path.{◌≡◌, ◌∙◌, sym, ap}
 use mathlib.Core.List.{List, [], ◌∷◌, ◌++◌, append-nil, append_assoc}
 use Prim.Native.Nat.{ℕ, zero, suc, ◌+◌, ◌*◌, ◌^◌, ◌≤◌, ◌<◌}
 use native.Mathlib.Numerals.{add-one}
@@ -15,8 +15,8 @@ use Rattle.verdict.specs.Verdict.{pick}
 use Rattle.verdict.specs.Counted.{bits_set}
 use Rattle.verdict.specs.Bits.{bits_of, flags_in, listed_by}
 use Rattle.verdict.proofs.Promises.{code_count_lem}
-use Rattle.buffer.specs.Kept.{Kept}
-use Rattle.buffer.proofs.KeptLaws.{keep_front, keep_none, keep_then}
+use Rattle.buffer.specs.Text.{added}
+use Rattle.buffer.proofs.TextLaws.{added_none, added_then, added_on}
 use Rattle.summary.specs.declared.Record.{Record}
 use Rattle.printing.specs.Printed.{decimal, spaced, longest}
 use Rattle.printing.specs.Report.{count_text, count_texts, headings_of, record_text, longest_count, KeptWithin, Put}
@@ -35,22 +35,22 @@ unfolding listed_by flags_in bits_of pick codes rule_codes form_codes polish_cod
 all_listed = rw (le-ltb code_count (bits_set all_bits) few_bits)
 
 -- a code with its count, or nothing
-pub counted_none : {out : List ℕ} {kept : ℕ} (code count : ℕ) → count ≡ 0 → Kept out kept (count_text code count) out kept
+pub counted_none : (room : ℕ) (out : List ℕ) (code count : ℕ) → count ≡ 0 → out ≡ added room out (count_text code count)
 unfolding count_text
-counted_none {out} {kept} code count e = rw (eq-eqb count 0 e) (keep_none out kept)
+counted_none room out code count e = rw (eq-eqb count 0 e) (sym (added_none room out))
 
-pub counted_one : {s0 s1 s2 s3 : List ℕ} {kept a b n : ℕ} (code count : ℕ) → (count ≡ 0 → ⊥) → Kept s0 kept (spaced (code ∷ [])) s1 a
-    → Kept s1 a (58 ∷ []) s2 b → Kept s2 b (decimal count) s3 n → Kept s0 kept (count_text code count) s3 n
+pub counted_one : (room : ℕ) (s0 : List ℕ) {s1 s2 s3 : List ℕ} (code count : ℕ) → (count ≡ 0 → ⊥) → s1 ≡ added room s0 (spaced (code ∷ []))
+    → s2 ≡ added room s1 (58 ∷ []) → s3 ≡ added room s2 (decimal count) → s3 ≡ added room s0 (count_text code count)
 unfolding count_text spaced
-counted_one code count e p q r =
+counted_one room s0 code count e p q r =
     let text : (spaced (code ∷ []) ++ (58 ∷ [])) ++ decimal count ≡ (32 ∷ decimal code) ++ (58 ∷ decimal count) =
     simp append_assoc in
-    rw (ne_eqb count 0 e, sym text) (keep_then (keep_then p q) r)
+    rw (ne_eqb count 0 e, r, q, p) (simp added_then (ap (added room s0) text))
 
 -- the first i codes are put
-pub record CountedSoFar (table counts before : List ℕ) (kept : ℕ) (buffer : List ℕ) (n i : ℕ) : Type 0 where
+pub record CountedSoFar (table counts : List ℕ) (room : ℕ) (before buffer : List ℕ) (i : ℕ) : Type 0 where
   pub within : i ≤ length table
-  pub so_far : Kept before kept (count_texts (take i table) (take i counts)) buffer n
+  pub so_far : buffer ≡ added room before (count_texts (take i table) (take i counts))
 
 one_more : (table counts : List ℕ) (i : ℕ) → i < length table → length table ≡ length counts
     → count_texts (take (suc i) table) (take (suc i) counts)
@@ -63,18 +63,23 @@ one_more (code ∷ table) (count ∷ counts) (suc i) h e =
     rw (one_more table counts i (omega arith) (omega arith))
     (sym (append_assoc (count_text code count) (count_texts (take i table) (take i counts)) (count_text (get_or table i 0) (get_or counts i 0))))
 
-module _ {table counts before : List ℕ} {kept : ℕ} where
-  pub counts_start : CountedSoFar table counts before kept before kept 0
+module _ {table counts before : List ℕ} {room : ℕ} where
+  pub counts_start : CountedSoFar table counts room before before 0
   unfolding count_texts
-  counts_start = record { within = omega arith; so_far = keep_none before kept }
+  counts_start = record { within = omega arith; so_far = sym (added_none room before) }
 
-  module _ {buffer : List ℕ} {n i : ℕ} (p : CountedSoFar table counts before kept buffer n i) (same : length table ≡ length counts) where
-    pub counts_on : {buffer' : List ℕ} {n' : ℕ} → i < length table → Kept buffer n (count_text (get_or table i 0) (get_or counts i 0)) buffer' n'
-        → CountedSoFar table counts before kept buffer' n' (i + 1)
+  module _ {buffer : List ℕ} {i : ℕ} (p : CountedSoFar table counts room before buffer i) (same : length table ≡ length counts) where
+    pub counts_on : {buffer' : List ℕ} → i < length table → buffer' ≡ added room buffer (count_text (get_or table i 0) (get_or counts i 0))
+        → CountedSoFar table counts room before buffer' (i + 1)
     counts_on h q =
-        record { within = omega arith; so_far = rw (add-one, one_more table counts i h same) (keep_then p.so_far q) }
+        record {
+          within = omega arith;
+          so_far =
+              rw (add-one, one_more table counts i h same)
+              (added_on room before (count_texts (take i table) (take i counts)) (count_text (get_or table i 0) (get_or counts i 0)) p.so_far q);
+        }
 
-    pub counts_all : length table ≤ i → Kept before kept (count_texts table counts) buffer n
+    pub counts_all : length table ≤ i → buffer ≡ added room before (count_texts table counts)
     counts_all h =
         let past : length counts ≤ i = omega arith in
         rw (sym (take_all i table h), sym (take_all i counts past)) p.so_far
@@ -97,28 +102,22 @@ counts_short (code ∷ table) (count ∷ counts) h k =
     rw length-append (omega (arith, count_short code count (h 0) (k 0), counts_short table counts (λ i. h (suc i)) (λ i. k (suc i))))
 
 -- the five counts, one behind the other
-then_spaced : (xs ys : List ℕ) {s0 s1 s2 : List ℕ} {kept a n : ℕ} → Kept s0 kept (spaced xs) s1 a → Kept s1 a (spaced ys) s2 n
-    → Kept s0 kept (spaced (xs ++ ys)) s2 n
-then_spaced xs ys p q = rw (spaced_join.joined xs ys) (keep_then p q)
+pub headings_kept : (r : Record) (room : ℕ) (s0 : List ℕ) {s1 s2 s3 s4 s5 : List ℕ} → s1 ≡ added room s0 (spaced (r.accepted ∷ []))
+    → s2 ≡ added room s1 (spaced (r.cancelled ∷ [])) → s3 ≡ added room s2 (spaced (r.found ∷ [])) → s4 ≡ added room s3 (spaced (r.full ∷ []))
+    → s5 ≡ added room s4 (spaced (r.refused ∷ [])) → s5 ≡ added room s0 (spaced (headings_of r))
+unfolding spaced
+headings_kept r room s0 p q s t u = rw (u, t, s, q, p) (simp (added_then, append-nil, append_assoc))
 
-pub headings_kept : (r : Record) {s0 s1 s2 s3 s4 s5 : List ℕ} {kept a b c d n : ℕ} → Kept s0 kept (spaced (r.accepted ∷ [])) s1 a
-    → Kept s1 a (spaced (r.cancelled ∷ [])) s2 b → Kept s2 b (spaced (r.found ∷ [])) s3 c → Kept s3 c (spaced (r.full ∷ [])) s4 d
-    → Kept s4 d (spaced (r.refused ∷ [])) s5 n → Kept s0 kept (spaced (headings_of r)) s5 n
-headings_kept r p q s t u =
-    then_spaced (r.accepted ∷ r.cancelled ∷ r.found ∷ r.full ∷ []) (r.refused ∷ [])
-    (then_spaced (r.accepted ∷ r.cancelled ∷ r.found ∷ []) (r.full ∷ [])
-    (then_spaced (r.accepted ∷ r.cancelled ∷ []) (r.found ∷ []) (then_spaced (r.accepted ∷ []) (r.cancelled ∷ []) p q) s) t) u
-
--- a record's line: there is room for it
-pub record_put : (name : List ℕ) (r : Record) {s0 s1 s2 s3 s4 : List ℕ} {a b c n : ℕ} {table : List ℕ} → length name ≤ 20 → table ≡ codes → Kept s0 0 name s1 a
-    → Kept s1 a (spaced (headings_of r)) s2 b
-    → KeptWithin (longest_count * length table) s2 b (count_texts table r.codes) s3 c → Kept s3 c (10 ∷ []) s4 n
-    → Put (record_text name r) s0 s4 n
+-- a record's line, and no longer than the longest answer
+pub record_put : (name : List ℕ) (r : Record) (room : ℕ) (s0 : List ℕ) {s1 s2 s3 s4 : List ℕ} {table : List ℕ} → length name ≤ 20 → table ≡ codes
+    → s1 ≡ added room s0 name → s2 ≡ added room s1 (spaced (headings_of r))
+    → KeptWithin (longest_count * length table) room s2 (count_texts table r.codes) s3 → s4 ≡ added room s3 (10 ∷ [])
+    → Put room s0 (record_text name r) s4
 unfolding record_text
-record_put name r {s0} {s4 = s4} {n = n} {table = table} h e p q t u =
+record_put name r room s0 {table = table} h e p q t u =
     let text : ((name ++ spaced (headings_of r)) ++ count_texts table r.codes) ++ (10 ∷ []) ≡ record_text name r =
     rw e (simp append_assoc) in
-    let short : length (record_text name r) ≤ longest =
-    simp length-append (omega (arith, spaced_short (headings_of r), rw e at t.few, code_count_lem)) in
-    let whole : Kept s0 0 (record_text name r) s4 n = rw text at (keep_then (keep_then (keep_then p q) t.keeps) u) in
-    record { keeps = whole; prints = λ room. keep_front whole ∙ take_all (length s0) (record_text name r) (omega arith) }
+    record {
+      keeps = rw (u, t.keeps, q, p) (simp added_then (ap (added room s0) text));
+      few = simp length-append (omega (arith, spaced_short (headings_of r), rw e at t.few, code_count_lem));
+    }

@@ -10,20 +10,19 @@ use lib.ListN.{length, take, get_or}
 use lib.Seq.{take_all}
 use borrow.Author.Tests.{lt-ltb, le-ltb, eq-eqb, ne_eqb}
 use Rattle.text.proofs.Bools.{cond_yes, cond_no}
-use Rattle.buffer.specs.Kept.{Kept}
-use Rattle.buffer.proofs.KeptLaws.{keep_none}
+use Rattle.buffer.specs.Text.{added}
+use Rattle.buffer.proofs.TextLaws.{added_none}
 use Rattle.summary.specs.declared.Record.{Record}
 use Rattle.summary.specs.Noting.{free}
 use Rattle.table.specs.declared.Table.{Table}
 use Rattle.table.specs.Rows.{record_count, record_at}
 use Rattle.printing.specs.Report.{record_text, firm_text, firm_texts, opening, common_text, summary_text, part_of, Put, Reporting, heads, row}
 
-put_as : {text text' before after : List ℕ} {n : ℕ} → text ≡ text' → Put text before after n → Put text' before after n
-put_as {before = before} {after = after} {n = n} e p =
-    record { keeps = subst (λ (t : List ℕ). Kept before 0 t after n) e p.keeps; prints = λ room. p.prints room ∙ e }
+put_as : {room : ℕ} {before text text' after : List ℕ} → text ≡ text' → Put room before text after → Put room before text' after
+put_as {room} {before} {after = after} e = subst (λ (t : List ℕ). Put room before t after) e
 
-module _ (t : Table) (i : ℕ) {r : Record} (is_row : r ≡ record_at t i) where
-  pub common_row : {before after : List ℕ} {n : ℕ} → record_count ≤ i → Put (common_text r) before after n → Put (part_of t i) before after n
+module _ (t : Table) (i : ℕ) {r : Record} (is_row : r ≡ record_at t i) {room : ℕ} {before : List ℕ} where
+  pub common_row : {after : List ℕ} → record_count ≤ i → Put room before (common_text r) after → Put room before (part_of t i) after
   unfolding part_of record_at
   common_row h =
       let past : ltb i record_count ≡ false = le-ltb i record_count h in
@@ -36,12 +35,13 @@ module _ (t : Table) (i : ℕ) {r : Record} (is_row : r ≡ record_at t i) where
         let below : ltb i record_count ≡ true = lt-ltb i record_count inside in
         cond_yes _ below (ap firm_text (is_row ∙ rw below))
 
-    pub free_row : {out : List ℕ} → get_or r.entity 0 0 ≡ 0 → Put (part_of t i) out out 0
+    pub free_row : get_or r.entity 0 0 ≡ 0 → Put room before (part_of t i) before
     unfolding firm_text
-    free_row {out} e = put_as (cond_yes _ (eq-eqb (get_or r.entity 0 0) 0 e) refl ∙ firm_part) (record { keeps = keep_none out 0; prints = λ room. refl })
+    free_row e =
+        put_as (cond_yes _ (eq-eqb (get_or r.entity 0 0) 0 e) refl ∙ firm_part) (record { keeps = sym (added_none room before); few = omega arith })
 
-    pub firm_row : {before after : List ℕ} {n : ℕ} → (get_or r.entity 0 0 ≡ 0 → ⊥) → Put (record_text r.entity r) before after n
-        → Put (part_of t i) before after n
+    pub firm_row : {after : List ℕ} → (get_or r.entity 0 0 ≡ 0 → ⊥) → Put room before (record_text r.entity r) after
+        → Put room before (part_of t i) after
     unfolding firm_text
     firm_row e p = put_as (cond_no _ (ne_eqb (get_or r.entity 0 0) 0 e) refl ∙ firm_part) p
 

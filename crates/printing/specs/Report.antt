@@ -3,7 +3,7 @@
 use Rattle.std.specs.Prelude.{ℕ, ◌+◌, ◌≤◌, ◌≡◌, cond, List, [], ◌∷◌, ◌++◌, eqb, ltb, length, take, get_or}
 use Rattle.text.specs.Ascii.{ascii}
 use Rattle.verdict.specs.Codes.{codes}
-use Rattle.buffer.specs.Kept.{Kept}
+use Rattle.buffer.specs.Text.{added}
 use Rattle.summary.specs.declared.Record.{Record}
 use Rattle.summary.specs.Counting.{blank}
 use Rattle.summary.specs.Noting.{free}
@@ -50,19 +50,18 @@ summary_text t = opening ++ (firm_texts t.records ++ common_text t.common)
 unfoldable pub part_of : Table → ℕ → List ℕ
 part_of t i = cond (ltb i record_count) (firm_text (get_or t.records i free)) (common_text t.common)
 
--- Text is kept in a buffer behind what was, and is not longer than so many bytes.
-pub record KeptWithin (most : ℕ) (before : List ℕ) (kept : ℕ) (more after : List ℕ) (n : ℕ) : Type 0 where
-  pub keeps : Kept before kept more after n
+-- Text is kept behind what was, as far as there is room, and is not longer than so many bytes.
+pub record KeptWithin (most room : ℕ) (before more after : List ℕ) : Type 0 where
+  pub keeps : after ≡ added room before more
   pub few : length more ≤ most
 
 -- a code of up to 5 digits and a count of up to 10, with the space and the colon
 abbrev pub longest_count : ℕ
 longest_count = 17
 
--- A text is kept from the start of a buffer, and stands in its first n bytes where there is room for the longest line.
-pub record Put (text before after : List ℕ) (n : ℕ) : Type 0 where
-  pub keeps : Kept before 0 text after n
-  pub prints : longest ≤ length before → take n after ≡ text
+-- A text is kept, and stands whole where there is room for the longest line.
+abbrev pub Put : ℕ → List ℕ → List ℕ → List ℕ → Type 0
+Put room before text after = KeptWithin longest room before text after
 
 -- The opening, and the rows one after another: how many there are, and what was put, joined.
 pub data Reporting (t : Table) : ℕ → List ℕ → Type 0 where

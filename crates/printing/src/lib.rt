@@ -3,37 +3,35 @@
 #![tactic(auto)]
 
 ghost use Rattle.std.specs.Prelude.{◌≡◌, [], ◌∷◌, take};
-ghost use Rattle.buffer.specs.Kept.{Kept};
+ghost use Rattle.buffer.specs.Text.{added};
 ghost use Rattle.printing.specs.Printed.{decimal, spaced, printed};
 
 mod report;
 
-use buffer::{keep, keep_all};
+use buffer::Text;
 pub use report::keep_row;
 
-fn keep_number(out: &mut [u8], kept: usize, n: u64) -> usize
-    ensures { Kept out.old kept (decimal n) out.new result }
+fn keep_number<const N: usize>(out: &mut Text<N>, n: u64)
+    ensures { out.new ≡ added N out.old (decimal n) }
 {
     let mut digits = [0u8; 20];
     let k = io::decimal(n, &mut digits);
-    keep_all(out, kept, &digits[..k])
+    out.push_all(&digits[..k]);
 }
 
-fn keep_spaced(out: &mut [u8], kept: usize, n: u64) -> usize
-    ensures { Kept out.old kept (spaced (n ∷ [])) out.new result }
+fn keep_spaced<const N: usize>(out: &mut Text<N>, n: u64)
+    ensures { out.new ≡ added N out.old (spaced (n ∷ [])) }
 {
-    let begun = keep(out, kept, b' ');
-    keep_number(out, begun, n)
+    out.push(b' ');
+    keep_number(out, n);
 }
 
-fn keep_codes(out: &mut [u8], kept: usize, codes: &[u16]) -> usize
-    ensures { Kept out.old kept (spaced codes.now) out.new result }
+fn keep_codes<const N: usize>(out: &mut Text<N>, codes: &[u16])
+    ensures { out.new ≡ added N out.old (spaced codes.now) }
 {
-    let mut n = kept;
     for &code in codes {
-        n = keep_spaced(out, n, u64::from(code));
+        keep_spaced(out, u64::from(code));
     }
-    n
 }
 
 // The first entries, or all where there are fewer.
@@ -43,12 +41,12 @@ pub fn listed(findings: &[u16], count: u16) -> &[u16]
     findings.get(..usize::from(count)).unwrap_or(findings)
 }
 
-pub fn keep_answer(out: &mut [u8], number: u64, answer: u16, count: u16, codes: &[u16]) -> usize
-    ensures { Kept out.old 0 (printed number answer count codes.now) out.new result }
+pub fn keep_answer<const N: usize>(out: &mut Text<N>, number: u64, answer: u16, count: u16, codes: &[u16])
+    ensures { out.new ≡ added N out.old (printed number answer count codes.now) }
 {
-    let numbered = keep_number(out, 0, number);
-    let answered = keep_spaced(out, numbered, u64::from(answer));
-    let counted = keep_spaced(out, answered, u64::from(count));
-    let coded = keep_codes(out, counted, codes);
-    keep(out, coded, b'\n')
+    keep_number(out, number);
+    keep_spaced(out, u64::from(answer));
+    keep_spaced(out, u64::from(count));
+    keep_codes(out, codes);
+    out.push(b'\n');
 }

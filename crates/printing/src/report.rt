@@ -1,12 +1,12 @@
 // What is printed for the day's summary: a line for each record, with its counts and the codes that lines have.
 ghost use Rattle.std.specs.Prelude.{◌≡◌, ◌*◌, ◌≤◌, length};
-ghost use Rattle.buffer.specs.Kept.{Kept};
+ghost use Rattle.buffer.specs.Text.{added};
 ghost use Rattle.verdict.specs.Codes.{codes};
 ghost use Rattle.printing.specs.Printed.{spaced};
 ghost use Rattle.printing.specs.Report.{count_text, count_texts, headings_of, record_text, part_of, longest_count, KeptWithin, Put};
 
 use crate::{keep_number, keep_spaced};
-use buffer::{keep, keep_all};
+use buffer::Text;
 use summary::Record;
 use table::{RECORD_COUNT, Table};
 use verdict::CODE_COUNT;
@@ -21,62 +21,58 @@ fn all_codes() -> [u16; CODE_COUNT]
 }
 
 // A code that no line has is left out.
-fn keep_counted(out: &mut [u8], kept: usize, code: u16, count: u32) -> usize
-    ensures { Kept out.old kept (count_text code count) out.new result }
+fn keep_counted<const N: usize>(out: &mut Text<N>, code: u16, count: u32)
+    ensures { out.new ≡ added N out.old (count_text code count) }
 {
     if count == 0 {
-        return kept;
+        return;
     }
-    let coded = keep_spaced(out, kept, u64::from(code));
-    let parted = keep(out, coded, b':');
-    keep_number(out, parted, u64::from(count))
+    keep_spaced(out, u64::from(code));
+    out.push(b':');
+    keep_number(out, u64::from(count));
 }
 
-fn keep_counts(out: &mut [u8], kept: usize, codes: &[u16], counts: &[u32]) -> usize
+fn keep_counts<const N: usize>(out: &mut Text<N>, codes: &[u16], counts: &[u32])
     requires { length codes.now ≡ length counts.now }
-    ensures { KeptWithin (longest_count * length codes.now) out.old kept (count_texts codes.now counts.now) out.new result }
+    ensures { KeptWithin (longest_count * length codes.now) N out.old (count_texts codes.now counts.now) out.new }
 {
-    let mut n = kept;
     for (&code, &count) in codes.iter().zip(counts) {
-        n = keep_counted(out, n, code, count);
+        keep_counted(out, code, count);
     }
-    n
 }
 
 // How many lines there are under each heading.
-fn keep_headings(out: &mut [u8], kept: usize, r: Record) -> usize
-    ensures { Kept out.old kept (spaced (headings_of r)) out.new result }
+fn keep_headings<const N: usize>(out: &mut Text<N>, r: &Record)
+    ensures { out.new ≡ added N out.old (spaced (headings_of r.now)) }
 {
-    let accepted = keep_spaced(out, kept, u64::from(r.accepted));
-    let cancelled = keep_spaced(out, accepted, u64::from(r.cancelled));
-    let found = keep_spaced(out, cancelled, u64::from(r.found));
-    let full = keep_spaced(out, found, u64::from(r.full));
-    keep_spaced(out, full, u64::from(r.refused))
+    keep_spaced(out, u64::from(r.accepted));
+    keep_spaced(out, u64::from(r.cancelled));
+    keep_spaced(out, u64::from(r.found));
+    keep_spaced(out, u64::from(r.full));
+    keep_spaced(out, u64::from(r.refused));
 }
 
-// A line for a record, at the start of `out`; the name is the entity's, or a word of that length at most.
-fn keep_record(out: &mut [u8], name: &[u8], r: Record) -> usize
+// A line for a record; the name is the entity's, or a word of that length at most.
+fn keep_record<const N: usize>(out: &mut Text<N>, name: &[u8], r: &Record)
     requires { length name.now ≤ 20 }
-    ensures { Put (record_text name.now r) out.old out.new result }
+    ensures { Put N out.old (record_text name.now r.now) out.new }
 {
-    let named = keep_all(out, 0, name);
-    let headed = keep_headings(out, named, r);
-    let counts = r.codes;
-    let counted = keep_counts(out, headed, &all_codes(), &counts);
-    keep(out, counted, b'\n')
+    out.push_all(name);
+    keep_headings(out, r);
+    keep_counts(out, &all_codes(), &r.codes);
+    out.push(b'\n');
 }
 
-// The line of a row of the table, at the start of `out`. A free record has none.
-pub fn keep_row(out: &mut [u8], table: &Table, i: usize) -> usize
-    ensures { Put (part_of table.now i) out.old out.new result }
+// The line of a row of the table. A free record has none.
+pub fn keep_row<const N: usize>(out: &mut Text<N>, table: &Table, i: usize)
+    ensures { Put N out.old (part_of table.now i) out.new }
 {
     let r = table.record_at(i);
     if RECORD_COUNT <= i {
-        return keep_record(out, b"common", r);
+        return keep_record(out, b"common", &r);
     }
-    let name = r.entity;
-    if name[0] == 0 {
-        return 0;
+    if r.entity[0] == 0 {
+        return;
     }
-    keep_record(out, &name, r)
+    keep_record(out, &r.entity, &r);
 }

@@ -2,8 +2,9 @@ use Rattle.printing.proofs.ReportLaws.{counted_none, counted_one}
 use Rattle.printing.proofs.report.keep_counted.Goals as goal
 
 pub returns-then-count-eq0 : goal.returns-then-count-eq0
-returns-then-count-eq0 c = counted_none c.args.code c.args.count c.if-count-eq0.true
+returns-then-count-eq0 g c = counted_none g.row.N c.args.out.now c.args.code c.args.count c.if-count-eq0.true
 
 pub returns : goal.returns
-returns c = counted_one c.args.code c.args.count c.if-count-eq0.false (rw c.from.ensures at c.keep_spaced-coded.ensures) c.keep-parted.ensures
+returns g c =
+    counted_one g.row.N c.args.out.now c.args.code c.args.count c.if-count-eq0.false (rw c.from.ensures at c.keep_spaced.ensures) c.push.ensures
     (rw c.from-2.ensures at c.keep_number.ensures)

@@ -3,4 +3,4 @@ use Rattle.printing.proofs.ReportLaws.{CountedSoFar}
 use Rattle.printing.proofs.report.keep_counts.Given as goal
 
 abbrev pub invariant-loop-code : goal.invariant-loop-code
-invariant-loop-code l = CountedSoFar l.codes l.counts l.initial.out l.kept l.out l.n (length l.yielded)
+invariant-loop-code g l = CountedSoFar l.codes l.counts g.row.N l.initial.out l.out (length l.yielded)

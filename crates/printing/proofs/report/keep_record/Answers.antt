@@ -6,8 +6,9 @@ use lib.ListN.{length}
 use borrow.Author.Rules.{rules}
 use Rattle.printing.proofs.report.keep_record.Goals as goal
 
-pub keep_counts-counted-requires : goal.keep_counts-counted-requires
-keep_counts-counted-requires c = let counts : length c.args.r.codes ≡ code_count = search rules in ap length c.all_codes.ensures ∙ code_count_lem ∙ sym counts
+pub keep_counts-requires : goal.keep_counts-requires
+keep_counts-requires g c = let counts : length c.args.r.now.codes ≡ code_count = search rules in ap length c.all_codes.ensures ∙ code_count_lem ∙ sym counts
 
 pub returns : goal.returns
-returns c = record_put c.args.name.now c.args.r c.requires c.all_codes.ensures c.keep_all-named.ensures c.keep_headings-headed.ensures c.keep_counts-counted.ensures c.keep.ensures
+returns g c =
+    record_put c.args.name.now c.args.r.now g.row.N c.args.out.now c.requires c.all_codes.ensures c.push_all.ensures.keeps c.keep_headings.ensures c.keep_counts.ensures c.push.ensures
