@@ -105,8 +105,16 @@ counts_short (code ∷ table) (count ∷ counts) h k =
 pub headings_kept : (r : Record) (room : ℕ) (s0 : List ℕ) {s1 s2 s3 s4 s5 : List ℕ} → s1 ≡ added room s0 (spaced (r.accepted ∷ []))
     → s2 ≡ added room s1 (spaced (r.cancelled ∷ [])) → s3 ≡ added room s2 (spaced (r.found ∷ [])) → s4 ≡ added room s3 (spaced (r.full ∷ []))
     → s5 ≡ added room s4 (spaced (r.refused ∷ [])) → s5 ≡ added room s0 (spaced (headings_of r))
-unfolding spaced
-headings_kept r room s0 p q s t u = rw (u, t, s, q, p) (simp (added_then, append-nil, append_assoc))
+headings_kept r room s0 p q s t u =
+    let e : (((spaced (r.accepted ∷ []) ++ spaced (r.cancelled ∷ [])) ++ spaced (r.found ∷ [])) ++ spaced (r.full ∷ [])) ++ spaced (r.refused ∷ [])
+    ≡ spaced (headings_of r) =
+    sym (spaced_join.joined (r.accepted ∷ r.cancelled ∷ r.found ∷ r.full ∷ []) (r.refused ∷ [])
+    ∙ ap (λ (l : List ℕ). l ++ spaced (r.refused ∷ []))
+    (spaced_join.joined (r.accepted ∷ r.cancelled ∷ r.found ∷ []) (r.full ∷ [])
+    ∙ ap (λ (l : List ℕ). l ++ spaced (r.full ∷ []))
+    (spaced_join.joined (r.accepted ∷ r.cancelled ∷ []) (r.found ∷ [])
+    ∙ ap (λ (l : List ℕ). l ++ spaced (r.found ∷ [])) (spaced_join.joined (r.accepted ∷ []) (r.cancelled ∷ []))))) in
+    rw (u, t, s, q, p) (simp added_then (ap (added room s0) e))
 
 -- a record's line, and no longer than the longest answer
 pub record_put : (name : List ℕ) (r : Record) (room : ℕ) (s0 : List ℕ) {s1 s2 s3 s4 : List ℕ} {table : List ℕ} → length name ≤ 20 → table ≡ codes

@@ -21,6 +21,12 @@ use Rattle.printing.specs.Report.{record_text, firm_text, firm_texts, opening, c
 put_as : {room : ℕ} {before text text' after : List ℕ} → text ≡ text' → Put room before text after → Put room before text' after
 put_as {room} {before} {after = after} e = subst (λ (t : List ℕ). Put room before t after) e
 
+firm_part : (t : Table) (i : ℕ) {r : Record} → r ≡ record_at t i → i < record_count → firm_text r ≡ part_of t i
+unfolding part_of record_at
+firm_part t i is_row inside =
+    let below : ltb i record_count ≡ true = lt-ltb i record_count inside in
+    cond_yes _ below (ap firm_text (is_row ∙ rw below))
+
 module _ (t : Table) (i : ℕ) {r : Record} (is_row : r ≡ record_at t i) {room : ℕ} {before : List ℕ} where
   pub common_row : {after : List ℕ} → record_count ≤ i → Put room before (common_text r) after → Put room before (part_of t i) after
   unfolding part_of record_at
@@ -29,21 +35,16 @@ module _ (t : Table) (i : ℕ) {r : Record} (is_row : r ≡ record_at t i) {room
       put_as (cond_no _ past (ap common_text (is_row ∙ rw past)))
 
   module _ (inside : i < record_count) where
-    firm_part : firm_text r ≡ part_of t i
-    unfolding part_of record_at
-    firm_part =
-        let below : ltb i record_count ≡ true = lt-ltb i record_count inside in
-        cond_yes _ below (ap firm_text (is_row ∙ rw below))
-
     pub free_row : get_or r.entity 0 0 ≡ 0 → Put room before (part_of t i) before
     unfolding firm_text
     free_row e =
-        put_as (cond_yes _ (eq-eqb (get_or r.entity 0 0) 0 e) refl ∙ firm_part) (record { keeps = sym (added_none room before); few = omega arith })
+        put_as (cond_yes _ (eq-eqb (get_or r.entity 0 0) 0 e) refl ∙ firm_part t i is_row inside)
+        (record { keeps = sym (added_none room before); few = omega arith })
 
     pub firm_row : {after : List ℕ} → (get_or r.entity 0 0 ≡ 0 → ⊥) → Put room before (record_text r.entity r) after
         → Put room before (part_of t i) after
     unfolding firm_text
-    firm_row e p = put_as (cond_no _ (ne_eqb (get_or r.entity 0 0) 0 e) refl ∙ firm_part) p
+    firm_row e p = put_as (cond_no _ (ne_eqb (get_or r.entity 0 0) 0 e) refl ∙ firm_part t i is_row inside) p
 
 texts_more : (records : List Record) (i : ℕ) → i < length records
     → firm_texts (take (suc i) records) ≡ firm_texts (take i records) ++ firm_text (get_or records i free)

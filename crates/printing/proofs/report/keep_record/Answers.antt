@@ -7,7 +7,9 @@ use borrow.Author.Rules.{rules}
 use Rattle.printing.proofs.report.keep_record.Goals as goal
 
 pub keep_counts-requires : goal.keep_counts-requires
-keep_counts-requires g c = let counts : length c.args.r.now.codes ≡ code_count = search rules in ap length c.all_codes.ensures ∙ code_count_lem ∙ sym counts
+keep_counts-requires g c =
+    let counts : length c.args.r.now.codes ≡ code_count = search rules in
+    (search rules, ap length c.all_codes.ensures ∙ code_count_lem ∙ sym counts)
 
 pub returns : goal.returns
 returns g c =
