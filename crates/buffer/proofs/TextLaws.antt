@@ -44,6 +44,11 @@ module _ {f : List ℕ → List ℕ} (j : Joins f) (room : ℕ) (before : List �
       rw (add-one, take-suc xs i 0) (j.joined (take i xs) (get_or xs i 0 ∷ [])) in
       rw e (added_on room before (f (take i xs)) (f (get_or xs i 0 ∷ [])) p q)
 
+-- what was kept stays
+pub added_least : (room : ℕ) (kept more : List ℕ) → length kept ≤ length (added room kept more)
+unfolding added
+added_least room kept more = rw length-append (omega arith)
+
 -- where what was kept had room, it is the first bytes of the whole
 pub added_front : (room : ℕ) (kept more : List ℕ) → length kept ≤ room → added room kept more ≡ take room (kept ++ more)
 unfolding added

@@ -9,7 +9,8 @@ use Rattle.verdict.specs.Codes.{code_count}
 use Rattle.judge.specs.Outcome.{Outcome, outcome}
 use Rattle.summary.specs.declared.Record.{Record}
 use Rattle.summary.specs.Counting.{top}
-use Rattle.table.specs.Rows.{Table, record_count}
+use Rattle.table.specs.declared.Table.{Table}
+use Rattle.table.specs.Rows.{record_count}
 use Rattle.table.specs.Noted.{noted, empty_table}
 use Rattle.day.specs.Summary.{Handed, Run, Summary}
 use Rattle.day.proofs.Summary.{day_summary}

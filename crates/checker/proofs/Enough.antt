@@ -16,7 +16,7 @@ use Rattle.verdict.specs.Verdict.{refused_by}
 use Rattle.summary.specs.declared.Line.{Line}
 use Rattle.summary.specs.Judged.{of_no_entity, kind_of, line_of}
 use Rattle.summary.specs.Noting.{note_of}
-use Rattle.table.specs.Rows.{Table}
+use Rattle.table.specs.declared.Table.{Table}
 use Rattle.table.specs.Noted.{left, noted}
 use Rattle.judge.specs.Refusal.{early}
 use Rattle.judge.specs.Outcome.{Outcome, refused_outcome}

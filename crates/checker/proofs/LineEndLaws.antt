@@ -1,40 +1,26 @@
--- The place of the first LF: found by a loop, no LF before it, and LF at it.
-use mathlib.Core.Path.{◌≡◌, ◌∙◌, ap}
-use mathlib.Core.Bool.{true, false}
+-- The place of the first LF: as `position` finds it, no LF before it, and LF at it.
+use mathlib.Core.Path.{◌≡◌, ◌∙◌, refl, sym, ap}
+use mathlib.Core.Bool.{Bool, true, false, cond}
 use mathlib.Core.List.{List, [], ◌∷◌, ◌++◌}
 use Prim.Native.Nat.{ℕ, suc, ◌+◌, ◌≤◌, ◌<◌}
 use native.Mathlib.Numerals.{add-one}
 use native.Mathlib.Omega.{arith}
-use lib.Dec.{eqb}
-use lib.ListN.{length, take, drop, get_or, drop_of_length-le}
+use lib.Dec.{eqb, ltb}
+use lib.ListN.{length, take, get_or}
 use lib.Seq.{take-suc}
-use borrow.Author.Tests.{eq-eqb, ne_eqb, eqb-true}
+use borrow.Author.Tests.{eqb-true, ltb-false}
 use Rattle.text.proofs.Bools.{by_test}
-use Rattle.text.proofs.Lists.{rest_at}
+use Rattle.std.specs.Prelude.{◌==◌}
+use Rattle.std.specs.List.{position_or_len}
+use Rattle.std.specs.Option.{unwrap_or}
+use Rattle.std.proofs.Common.{Some, None}
+use Rattle.std.proofs.lemmas.List.Recursion.{is_position_or_len}
 use Rattle.checker.specs.Progress.{line_end}
 
--- no LF stands before place i
-pub record NoEndSoFar (s : List ℕ) (i : ℕ) : Type 0 where
-  pub within : i ≤ length s
-  pub behind : line_end s ≡ i + line_end (drop i s)
-
-pub end_start : {s : List ℕ} → NoEndSoFar s 0
-end_start {s} = record { within = omega arith; behind = omega arith }
-
-module _ {s : List ℕ} {i : ℕ} (so_far : NoEndSoFar s i) where
-  pub end_here : i < length s → get_or s i 0 ≡ 10 → i ≡ line_end s
-  unfolding line_end
-  end_here h e = let z : line_end (drop i s) ≡ 0 = rw (rest_at 0 s i h, eq-eqb _ _ e) in omega (arith, so_far.behind)
-
-  pub end_on : i < length s → (get_or s i 0 ≡ 10 → ⊥) → NoEndSoFar s (i + 1)
-  unfolding line_end
-  end_on h e =
-      let z : line_end (drop i s) ≡ suc (line_end (drop (i + 1) s)) = rw (rest_at 0 s i h, ne_eqb _ _ e) in
-      record { within = omega arith; behind = omega (arith, so_far.behind) }
-
-  pub end_none : length s ≤ i → i ≡ line_end s
-  unfolding line_end
-  end_none h = let z : line_end (drop i s) ≡ 0 = rw (drop_of_length-le s h) in omega (arith, so_far.behind)
+-- the first byte that is one, and where there is none the length stands in its place
+end_first : (s : List ℕ) → line_end s ≡ position_or_len (λ b. b == 10) s
+unfolding line_end
+end_first = is_position_or_len line_end (λ b. b == 10) refl (λ b s. grind arith)
 
 pub end_now : (b : ℕ) (s : List ℕ) → eqb b 10 ≡ true → line_end (b ∷ s) ≡ 0
 unfolding line_end
@@ -48,6 +34,14 @@ pub end_within : (s : List ℕ) → line_end s ≤ length s
 unfolding line_end
 end_within [] = omega arith
 end_within (b ∷ s) = by_test (eqb b 10) (λ t. rw t (omega arith)) (λ t. rw t (omega (arith, end_within s)))
+
+pub end_found : (s : List ℕ)
+    → unwrap_or (cond (ltb (position_or_len (λ b. b == 10) s) (length s)) (Some (position_or_len (λ b. b == 10) s)) None) (length s) ≡ line_end s
+end_found s = rw (sym (end_first s)) (go (ltb (line_end s) (length s)) refl)
+  where
+    go : (t : Bool) → ltb (line_end s) (length s) ≡ t → unwrap_or (cond t (Some (line_end s)) None) (length s) ≡ line_end s
+    go true e = refl
+    go false e = omega (arith, end_within s, ltb-false (line_end s) (length s) e)
 
 end_is : (s : List ℕ) → line_end s < length s → get_or s (line_end s) 0 ≡ 10
 unfolding line_end

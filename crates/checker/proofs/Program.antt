@@ -12,26 +12,31 @@ use contract.Lifetimes.{Lfts}
 use denote.Triple.Clauses.{AtExit}
 use borrow.Fn.Kinds.{Dens, res_t, ended_of}
 use Rattle.text.proofs.Bools.{by_test}
+use mir.Syntax.{w64}
+use mir.Val.{Fits}
 use Rattle.buffer.proofs.KeptLaws.{take_again}
 use Rattle.judge.specs.Outcome.{Outcome}
-use Rattle.table.specs.Rows.{Table, Rows, record_count, table_in}
+use Rattle.table.specs.declared.Table.{Table}
+use Rattle.table.specs.Rows.{record_count}
 use Rattle.table.specs.Noted.{empty_table}
-use Rattle.table.proofs.NoteLaws.{record_count_lem}
 use Rattle.checker.specs.Setting.{empty_register}
 use Rattle.checker.specs.Bare.{bare}
 use Rattle.checker.specs.Lines.{unended, lines_from}
 use Rattle.printing.specs.Printed.{longest}
 use Rattle.checker.specs.Program.{answer_to, judged, answers, program_writes, table_after, program_reports}
-use Rattle.checker.specs.Progress.{Progress, progress, held, start, told, left, entered, room, raised, ended, more, after, writes, last_answer, last_table, writes_all, Finished, Run, begins, turn}
-use Rattle.printing.specs.Report.{summary_text, Reporting, row}
+use Rattle.checker.specs.declared.progress.Progress.{Progress}
+use Rattle.checker.specs.Progress.{progress, start, told, left, entered, room, raised, ended, more, after, writes, last_answer, last_table, writes_all, Finished, Run, begins, turn}
+use Rattle.printing.specs.Report.{summary_text, part_of, Reporting, row}
+use Rattle.buffer.specs.Text.{added}
+use Rattle.buffer.proofs.TextLaws.{added_all}
 use Rattle.checker.proofs.ProgressLaws.{after_append, writes_append}
 use Rattle.checker.proofs.Enough.{kept_ended, kept_last}
 use Rattle.printing.proofs.RowLaws.{reported}
 use Rattle.checker.proofs.TableLaws.{input_noted}
-use Rattle.checker.proofs.advance.Kinds as advance_kinds
-use Rattle.checker.proofs.advance.Reads as advance_reads
-use Rattle.checker.proofs.finish.Kinds as finish_kinds
-use Rattle.checker.proofs.finish.Reads as finish_reads
+use Rattle.checker.proofs.progress.Progress.advance.Kinds as advance_kinds
+use Rattle.checker.proofs.progress.Progress.advance.Reads as advance_reads
+use Rattle.checker.proofs.progress.Progress.finish.Kinds as finish_kinds
+use Rattle.checker.proofs.progress.Progress.finish.Reads as finish_reads
 use Rattle.printing.proofs.keep_row.Kinds as keep_row_kinds
 use Rattle.printing.proofs.keep_row.Reads as keep_row_reads
 
@@ -180,47 +185,50 @@ program_reports_lem {table = table} run h f whole r =
 
 -- A call of `advance` is a turn: its contract, as it stands over the code, is what `turn` asks for.
 pub turns :
-    {taken output : List ℕ} (κs : Lfts 6) (a : Dens κs advance_kinds.ps) (x : (res_t advance_kinds.r κs).Denot)
-    (s : AtExit (ended_of 6 advance_kinds.ps advance_kinds.r) κs)
+    {taken output : List ℕ} (κs : Lfts 3) (a : Dens κs advance_kinds.ps) (x : (res_t advance_kinds.r κs).Denot)
+    (s : AtExit (ended_of 3 advance_kinds.ps advance_kinds.r) κs)
     → advance_reads.Post κs a x s
-    → Run taken (held a.1.0.now a.1.1.1.1.1.0 a.1.1.1.1.1.1.0 a.1.1.0.now a.1.1.1.0.now a.1.1.1.1.0.now) output
-    → Run (taken ++ take x.used a.0.now) (held s.1.0.now x.kept x.number s.1.1.0.now s.1.1.1.0.now s.1.1.1.1.0.now) (output ++ take x.written s.1.1.1.1.1.1.1.0.now)
+    → Run taken a.0.now output
+    → Run (taken ++ take x a.1.0.now) s.0.now (output ++ s.1.1.0.now)
 turns κs a x s post run = turn run post
 
 -- It takes some of the bytes that there are, and no more, so that turns come to the end of a chunk.
 pub turn_takes :
-    (κs : Lfts 6) (a : Dens κs advance_kinds.ps) (x : (res_t advance_kinds.r κs).Denot) (s : AtExit (ended_of 6 advance_kinds.ps advance_kinds.r) κs)
-    → advance_reads.Post κs a x s → 0 < length a.0.now
-    → (0 < x.used) × (x.used ≤ length a.0.now)
+    (κs : Lfts 3) (a : Dens κs advance_kinds.ps) (x : (res_t advance_kinds.r κs).Denot) (s : AtExit (ended_of 3 advance_kinds.ps advance_kinds.r) κs)
+    → advance_reads.Post κs a x s → 0 < length a.1.0.now
+    → (0 < x) × (x ≤ length a.1.0.now)
 turn_takes κs a x s post h = (omega (arith, post.takes), omega (arith, post.takes))
 
 -- A call of `finish` ends the run: by its contract, all that was put is what the program writes for the input.
 pub ends :
-    {input output : List ℕ} (κs : Lfts 5) (a : Dens κs finish_kinds.ps) (x : (res_t finish_kinds.r κs).Denot)
-    (s : AtExit (ended_of 5 finish_kinds.ps finish_kinds.r) κs)
+    {input output : List ℕ} (κs : Lfts 2) (a : Dens κs finish_kinds.ps) (x : (res_t finish_kinds.r κs).Denot)
+    (s : AtExit (ended_of 2 finish_kinds.ps finish_kinds.r) κs)
     → finish_reads.Post κs a x s
-    → Run input (held a.0.now a.1.1.1.1.0 a.1.1.1.1.1.0 a.1.0.now a.1.1.0.now a.1.1.1.0.now) output
+    → Run input a.0.now output
     → length input < 18446744073709551615
-    → output ++ take x s.1.1.1.1.1.1.0.now ≡ program_writes input
+    → output ++ s.1.0.now ≡ program_writes input
 ends κs a x s post run h = program_writes_lem run h post.puts
 
--- A call of `keep_row` is a row: by its contract, over a buffer with room for the longest line.
+-- A call of `keep_row` is a row: by its contract, where nothing is kept yet and there is room for the longest line.
 pub rows :
-    {output : List ℕ} (κs : Lfts 3) (a : Dens κs keep_row_kinds.ps) (x : (res_t keep_row_kinds.r κs).Denot)
-    (s : AtExit (ended_of 3 keep_row_kinds.ps keep_row_kinds.r) κs)
-    → keep_row_reads.Post κs a x s → longest ≤ length a.0.now
-    → Reporting (table_in a.1.0.now a.1.1.0.now) a.1.1.1.0 output
-    → Reporting (table_in a.1.0.now a.1.1.0.now) (a.1.1.1.0 + 1) (output ++ take x s.0.now)
-rows κs a x s post room r = row r (post.prints room)
+    {output : List ℕ} (N : ℕ) (fits : Fits w64 N) (κs : Lfts 3) (a : Dens κs (keep_row_kinds.ps N fits)) (x : (res_t (keep_row_kinds.r N fits) κs).Denot)
+    (s : AtExit (ended_of 3 (keep_row_kinds.ps N fits) (keep_row_kinds.r N fits)) κs)
+    → keep_row_reads.Post N fits κs a x s → longest ≤ N → a.0.now ≡ []
+    → Reporting a.1.0.now a.1.1.0 output
+    → Reporting a.1.0.now (a.1.1.0 + 1) (output ++ s.0.now)
+rows N fits κs a x s post wide none r =
+    row r
+    (post.keeps ∙ ap (λ (l : List ℕ). added N l (part_of a.1.0.now a.1.1.0)) none
+    ∙ added_all N [] (part_of a.1.0.now a.1.1.0) (omega (arith, post.few)))
 
 -- So a run that `finish` ends, and the rows that it leaves, all of them put: joined, what the program writes with the summary.
 pub ends_reported :
-    {input output report : List ℕ} (κs : Lfts 5) (a : Dens κs finish_kinds.ps) (x : (res_t finish_kinds.r κs).Denot)
-    (s : AtExit (ended_of 5 finish_kinds.ps finish_kinds.r) κs)
+    {input output report : List ℕ} (κs : Lfts 2) (a : Dens κs finish_kinds.ps) (x : (res_t finish_kinds.r κs).Denot)
+    (s : AtExit (ended_of 2 finish_kinds.ps finish_kinds.r) κs)
     → finish_reads.Post κs a x s
-    → Run input (held a.0.now a.1.1.1.1.0 a.1.1.1.1.1.0 a.1.0.now a.1.1.0.now a.1.1.1.0.now) output
+    → Run input a.0.now output
     → length input < 18446744073709551615
-    → Rows s.1.1.0.now s.1.1.1.0.now
-    → Reporting (table_in s.1.1.0.now s.1.1.1.0.now) (record_count + 1) report
-    → (output ++ take x s.1.1.1.1.1.1.0.now) ++ report ≡ program_reports input
-ends_reported κs a x s post run h sized r = program_reports_lem run h post (record_count_lem s.1.1.0.now s.1.1.1.0.now sized) r
+    → length s.0.now.carried.table.records ≡ record_count
+    → Reporting s.0.now.carried.table (record_count + 1) report
+    → (output ++ s.1.0.now) ++ report ≡ program_reports input
+ends_reported κs a x s post run h sized r = program_reports_lem run h post sized r

@@ -5,20 +5,21 @@ use mathlib.Core.List.{List, [], ◌∷◌, ◌++◌, append-nil, append_assoc}
 use Prim.Native.Nat.{ℕ, suc, ◌+◌, ◌-◌, ◌≤◌, ◌<◌}
 use native.Mathlib.Omega.{arith}
 use lib.Dec.{eqb, ltb}
-use lib.IntN.{ℤ}
 use lib.ListN.{length, take, drop, length-append, length-take, length-drop}
 use lib.Seq.{take_all, take-add}
 use borrow.Author.Tests.{eq-eqb, ne_eqb, eqb-false, le-leb, lt-leb, lt-ltb, le-ltb}
 use Rattle.text.proofs.Bools.{by_test}
-use Rattle.io.specs.Counts.{IsPrefixLen, clamp_len}
-use Rattle.table.specs.Rows.{Table}
+use Rattle.table.specs.declared.Table.{Table}
 use Rattle.table.specs.Noted.{empty_table}
-use Rattle.buffer.specs.Kept.{Kept}
-use Rattle.buffer.proofs.KeptLaws.{keep_front, take_again}
+use Rattle.buffer.specs.Text.{added}
+use Rattle.buffer.proofs.KeptLaws.{take_again}
+use Rattle.buffer.proofs.TextLaws.{added_least, added_front}
 use Rattle.checker.specs.Setting.{empty_register}
 use Rattle.checker.specs.Bare.{bare}
 use Rattle.checker.specs.Program.{judged}
-use Rattle.checker.specs.Progress.{Progress, progress, start, told, left, entered, room, raised, ended, more, step, said, after, writes, line_end, Answered, Told, Roomy, Advanced, Finished, Took, read_in, TookRead, Reached, ReadOn}
+use Rattle.checker.specs.declared.progress.Carried.{Carried}
+use Rattle.checker.specs.declared.progress.Progress.{Progress}
+use Rattle.checker.specs.Progress.{carried, progress, start, told, left, entered, room, raised, ended, more, step, said, after, writes, line_end, Answered, Told, Advanced, Finished, TookRead, Reached, ReadOn}
 use Rattle.checker.proofs.LineEndLaws.{end_now, end_next, end_within, with_end}
 
 pub after_append : (p : Progress) (s t : List ℕ) → after p (s ++ t) ≡ after (after p s) t
@@ -66,80 +67,73 @@ silent (b ∷ s) p =
     (λ t. ap (λ (n : ℕ). writes p (take n (b ∷ s))) (end_now b s t))
     (λ t.
     ap (λ (n : ℕ). writes p (take n (b ∷ s))) (end_next b s t)
-    ∙ ap (λ (x : Bool). cond x (told p.number (bare p.begun) p.register) [] ++ writes (step p b) (take (line_end s) s)) t
+    ∙ ap (λ (x : Bool). cond x (told p.carried.number (bare p.begun) p.carried.register) [] ++ writes (step p b) (take (line_end s) s)) t
     ∙ silent s (step p b))
 
 -- a line that is skipped, and one that is answered
-pub told_none : {number : ℕ} {line register out : List ℕ} {table : Table} → number ≤ 1 → Told number line register table out out 0 register table
+pub told_none : {c : Carried} {line put : List ℕ} → c.number ≤ 1 → put ≡ [] → Told c line put c
 unfolding told left entered
-told_none {number} h =
-    record { prints = λ e. rw (le-leb number 1 h); keeps = rw (le-leb number 1 h); notes = rw (le-leb number 1 h) }
+told_none {c} h e = record { prints = rw (le-leb c.number 1 h) e; carries = rw (le-leb c.number 1 h) }
 
-pub told_one : {number n : ℕ} {line register out out' register' : List ℕ} {table table' : Table} → 1 < number
-    → Answered number line (judged line register) table out out' n register' table' → Told number line register table out out' n register' table'
+pub told_one : {c c' : Carried} {line put : List ℕ} → 1 < c.number → Answered c line put c' → Told c line put c'
 unfolding told left entered
-told_one {number} h a =
-    record {
-      prints = λ e. rw (lt-leb number 1 h) (a.prints e);
-      keeps = rw (lt-leb number 1 h) a.keeps;
-      notes = rw (lt-leb number 1 h) a.notes;
-    }
+told_one {c} h a = record { prints = rw (lt-leb c.number 1 h) a.prints; carries = rw (lt-leb c.number 1 h) a.carries }
 
-module _ {line line' out : List ℕ} {kept begun end : ℕ} (chunk : List ℕ) (number : ℕ) (register : List ℕ) (table : Table) (e : end ≡ line_end chunk)
-    (roomy : Roomy line out) (k : Kept line kept (take end chunk) line' begun) where
+module _ (begun : List ℕ) {begun' : List ℕ} {end : ℕ} (chunk : List ℕ) (c : Carried) (e : end ≡ line_end chunk) (k : begun' ≡ added room begun (take end chunk))
+    (within : length begun' ≤ room) where
+  abbrev now : Progress
+  now = record { begun = begun; carried = c }
+
   -- the bytes before the LF are kept behind those that were
-  kept_so : progress (take begun line') number register table ≡ after (progress (take kept line) number register table) (take (line_end chunk) chunk)
+  kept_so : record { begun = begun'; carried = c } ≡ after now (take (line_end chunk) chunk)
   kept_so =
-      ap (λ (l : List ℕ). progress l number register table)
-      (keep_front k ∙ (λ i. take (roomy.for_line i) (take kept line ++ take (e i) chunk)))
-      ∙ sym (plain chunk (take kept line) number register table (rw length-take (omega (arith, roomy.for_line))))
+      let fits : length begun ≤ room = omega (arith, ap length k, added_least room begun (take end chunk)) in
+      ap (λ (l : List ℕ). record { begun = l; carried = c })
+      (k ∙ added_front room begun (take end chunk) fits ∙ (λ i. take room (begun ++ take (e i) chunk)))
+      ∙ sym (plain chunk begun c.number c.register c.table fits)
 
-  pub advanced_all : end ≡ length chunk → Advanced (progress (take kept line) number register table) chunk end (progress (take begun line') number register table) (take 0 out)
-  advanced_all h =
+  pub advanced_all : {put : List ℕ} → end ≡ length chunk → put ≡ [] → Advanced now chunk end (record { begun = begun'; carried = c }) put
+  advanced_all h none =
       record {
         takes = omega arith;
-        stands = kept_so ∙ ap (λ (n : ℕ). after (progress (take kept line) number register table) (take n chunk)) (sym e);
-        puts =
-            sym
-            (ap (λ (n : ℕ). writes (progress (take kept line) number register table) (take n chunk)) e ∙ silent chunk (progress (take kept line) number register table));
+        stands = kept_so ∙ ap (λ (n : ℕ). after now (take n chunk)) (sym e);
+        puts = none ∙ sym (ap (λ (n : ℕ). writes now (take n chunk)) e ∙ silent chunk now);
       }
 
-  pub advanced_line : {out' register' : List ℕ} {table' : Table} {n next : ℕ} → (end ≡ length chunk → ⊥) → next ≡ raised number
-      → Told number (bare (take begun line')) register table out out' n register' table'
-      → Advanced (progress (take kept line) number register table) chunk (end + 1) (progress [] next register' table') (take n out')
+  pub advanced_line : {c' : Carried} {put none : List ℕ} {next : ℕ} → (end ≡ length chunk → ⊥) → none ≡ [] → next ≡ raised c'.number
+      → Told c (bare begun') put c'
+      → Advanced now chunk (end + 1) (record { begun = none; carried = record { number = next; register = c'.register; table = c'.table } }) put
   unfolding after writes
-  advanced_line {out'} {register'} {table'} {n} {next} h r t =
+  advanced_line {c'} {put} {none} {next} h z r t =
       let inside : line_end chunk < length chunk = omega (arith, end_within chunk) in
       let bytes : take (end + 1) chunk ≡ take (line_end chunk) chunk ++ (10 ∷ []) =
       ap (λ (m : ℕ). take (m + 1) chunk) e ∙ with_end chunk inside in
       record {
         takes = omega arith;
         stands =
-            (λ i. progress [] (r i) (t.keeps i) (t.notes i))
+            (λ i. progress (z i) ((r ∙ ap (λ (x : Carried). raised x.number) t.carries) i) (t.carries i).register (t.carries i).table)
             ∙ ap ended kept_so
-            ∙ sym (after_append (progress (take kept line) number register table) (take (line_end chunk) chunk) (10 ∷ []))
-            ∙ ap (after (progress (take kept line) number register table)) (sym bytes);
+            ∙ sym (after_append now (take (line_end chunk) chunk) (10 ∷ []))
+            ∙ ap (after now) (sym bytes);
         puts =
-            t.prints roomy.for_answer
-            ∙ sym (append-nil (told number (bare (take begun line')) register))
+            t.prints
+            ∙ sym (append-nil (told c.number (bare begun') c.register))
             ∙ ap (λ (p : Progress). writes p (10 ∷ [])) kept_so
-            ∙ ap (λ (l : List ℕ). l ++ writes (after (progress (take kept line) number register table) (take (line_end chunk) chunk)) (10 ∷ [])) (sym (silent chunk (progress (take kept line) number register table)))
-            ∙ sym (writes_append (progress (take kept line) number register table) (take (line_end chunk) chunk) (10 ∷ []))
-            ∙ ap (writes (progress (take kept line) number register table)) (sym bytes);
+            ∙ ap (λ (l : List ℕ). l ++ writes (after now (take (line_end chunk) chunk)) (10 ∷ [])) (sym (silent chunk now))
+            ∙ sym (writes_append now (take (line_end chunk) chunk) (10 ∷ []))
+            ∙ ap (writes now) (sym bytes);
       }
 
 -- the line that has begun where the input ends
-module _ {line out : List ℕ} {kept : ℕ} (number : ℕ) (register : List ℕ) (table : Table) (roomy : Roomy line out) where
-  pub last_none : kept ≤ 0 → Finished (progress (take kept line) number register table) (take 0 out) table
-  last_none h =
-      let none : ltb 0 (length (take kept line)) ≡ false = le-ltb 0 (length (take kept line)) (rw length-take (omega arith)) in
-      record { puts = rw none; notes = rw none }
+pub last_none : {p : Progress} {put : List ℕ} → length p.begun ≤ 0 → put ≡ [] → Finished p put p.carried.table
+last_none {p} h e =
+    let none : ltb 0 (length p.begun) ≡ false = le-ltb 0 (length p.begun) h in
+    record { puts = rw none e; notes = rw none }
 
-  pub last_one : {out' register' : List ℕ} {table' : Table} {n : ℕ} → 0 < kept → Told number (take kept line) register table out out' n register' table'
-      → Finished (progress (take kept line) number register table) (take n out') table'
-  last_one h t =
-      let some : ltb 0 (length (take kept line)) ≡ true = lt-ltb 0 (length (take kept line)) (rw length-take (omega (arith, roomy.for_line))) in
-      record { puts = rw some (t.prints roomy.for_answer); notes = rw some t.notes }
+pub last_one : {p : Progress} {c : Carried} {put : List ℕ} → 0 < length p.begun → Told p.carried p.begun put c → Finished p put c.table
+last_one {p} h t =
+    let some : ltb 0 (length p.begun) ≡ true = lt-ltb 0 (length p.begun) h in
+    record { puts = rw some t.prints; notes = rw some (ap (λ (x : Carried). x.table) t.carries) }
 
 -- the chunk is taken up to a place
 pub record TakenSoFar (p : Progress) (chunk : List ℕ) (at : ℕ) (q : Progress) : Type 0 where
@@ -167,70 +161,48 @@ module _ {p q : Progress} {chunk : List ℕ} {at : ℕ} (so_far : TakenSoFar p c
       → length chunk - (at + used) < length chunk - at
   taken_less {q'} {put} {used} h a = omega (arith, a.takes, length-drop at chunk)
 
-  pub taken_all : length chunk ≤ at → Took p chunk q false false
-  taken_all h = record { goes_on = refl; stands = λ f. so_far.stands ∙ ap (after p) (take_all at chunk h) }
+  pub taken_all : length chunk ≤ at → q ≡ after p chunk
+  taken_all h = so_far.stands ∙ ap (after p) (take_all at chunk h)
 
-pub taken_failed : {p q : Progress} {chunk : List ℕ} {ended failed : Bool} → (ended ≡ false) × (failed ≡ true) → Took p chunk q ended failed
-taken_failed e = record { goes_on = e.0; stands = λ f. absurd (true≢false (sym e.1 ∙ f)) }
+-- what a read gave is taken, or there was nothing
+pub read_none : {p : Progress} (given : List ℕ) → length given ≤ 0 → TookRead given p p true
+unfolding after
+read_none [] h = record { stands = refl; at_end = refl }
+read_none (b ∷ s) h = absurd (omega arith)
 
--- what a read put in is taken, or there is none
-pub read_failed : {got : ℤ} {chunk : List ℕ} {p q : Progress} {ended failed : Bool} → failed ≡ true → TookRead got chunk p q ended failed
-read_failed e = record { stands = λ f. absurd (true≢false (sym e ∙ f)); at_end = λ f. absurd (true≢false (sym e ∙ f)) }
-
-module _ (got : ℤ) (chunk : List ℕ) {n : ℕ} (counts : IsPrefixLen n chunk) (e : n ≡ clamp_len got (length chunk)) where
-  same_bytes : take n chunk ≡ read_in got chunk
-  same_bytes = ap (λ (k : ℕ). take k chunk) e
-
-  same_length : n ≡ length (read_in got chunk)
-  same_length = counts.1 ∙ ap length same_bytes
-
-  pub read_none : {p : Progress} → n ≡ 0 → TookRead got chunk p p true false
-  unfolding after
-  read_none {p} z =
-      record {
-        stands = λ f. ap (λ (k : ℕ). after p (take k chunk)) (sym z) ∙ ap (after p) same_bytes;
-        at_end = λ f. sym (eq-eqb (length (read_in got chunk)) 0 (sym same_length ∙ z));
-      }
-
-  pub read_more : {p q : Progress} {ended failed : Bool} → (n ≡ 0 → ⊥) → Took p (take n chunk) q ended failed → TookRead got chunk p q ended failed
-  read_more {p} z t =
-      record {
-        stands = λ f. t.stands f ∙ ap (after p) same_bytes;
-        at_end = λ f. t.goes_on ∙ sym (ne_eqb (length (read_in got chunk)) 0 (λ none. z (same_length ∙ none)));
-      }
+pub read_more : {p q : Progress} {given : List ℕ} → 0 < length given → q ≡ after p given → TookRead given p q false
+read_more {given = given} h e = record { stands = e; at_end = sym (ne_eqb (length given) 0 (λ z. omega arith)) }
 
 -- where bytes lead
-pub from_start : {register : List ℕ} {table : Table} {q : Progress} → register ≡ empty_register → table ≡ empty_table
-    → Reached (progress [] 1 register table) q → Reached start q
-from_start e f r =
-    record { bytes = r.bytes; there = r.there ∙ (λ i. after (progress [] 1 (e i) (f i)) r.bytes) }
+pub from_start : {p q : Progress} → p ≡ start → Reached p q → Reached start q
+from_start e r = record { bytes = r.bytes; there = r.there ∙ ap (λ (x : Progress). after x r.bytes) e }
 
-pub on_start : {p : Progress} → ReadOn p p false 18446744073709551615
+pub on_start : {p : Progress} → ReadOn p p false 0
 unfolding after
 on_start = record { reached = record { bytes = []; there = refl }; not_early = λ e. omega arith }
 
-module _ {p q : Progress} {ended : Bool} {turns : ℕ} (so_far : ReadOn p q ended turns) where
-  pub on_more : {got : ℤ} {chunk : List ℕ} {q' : Progress} {ended' failed : Bool} → 0 < turns → ended ≡ false → failed ≡ false
-      → TookRead got chunk q q' ended' failed → ReadOn p q' ended' (turns - 1)
-  on_more {got} {chunk} h e f t =
+module _ {p q : Progress} {turns : ℕ} (so_far : ReadOn p q false turns) where
+  pub on_more : {given : List ℕ} {q' : Progress} {ended' : Bool} → TookRead given q q' ended' → ReadOn p q' ended' (turns + 1)
+  on_more {given} t =
       record {
         reached =
             record {
-              bytes = so_far.reached.bytes ++ read_in got chunk;
+              bytes = so_far.reached.bytes ++ given;
               there =
-                  t.stands f
-                  ∙ ap (λ (x : Progress). after x (read_in got chunk)) so_far.reached.there
-                  ∙ sym (after_append p so_far.reached.bytes (read_in got chunk));
+                  t.stands
+                  ∙ ap (λ (x : Progress). after x given) so_far.reached.there
+                  ∙ sym (after_append p so_far.reached.bytes given);
             };
         not_early =
             λ g.
-            let some : length (read_in got chunk) ≡ 0 → ⊥ = eqb-false (length (read_in got chunk)) 0 (sym (t.at_end f) ∙ g) in
-            rw (length-append so_far.reached.bytes (read_in got chunk)) (omega (arith, so_far.not_early e));
+            let some : length given ≡ 0 → ⊥ = eqb-false (length given) 0 (sym t.at_end ∙ g) in
+            rw (length-append so_far.reached.bytes given) (omega (arith, so_far.not_early refl));
       }
 
-  -- the loop ends with its turns, or with the input
-  pub on_done : turns ≤ 0 → ReadOn p q ended 0
-  on_done h = record { reached = so_far.reached; not_early = λ e. omega (arith, so_far.not_early e) }
+-- the loop ends with its turns, or with the input
+pub on_done : {p q : Progress} {turns turns' : ℕ} → ReadOn p q false turns → turns' ≤ turns → ReadOn p q false turns'
+on_done r h = record { reached = r.reached; not_early = λ e. omega (arith, r.not_early e) }
 
-  pub on_ended : ended ≡ true → ReadOn p q ended 0
-  on_ended e = record { reached = so_far.reached; not_early = λ f. absurd (true≢false (sym e ∙ f)) }
+-- where the input has ended, there may have been any number
+pub on_ended : {p q : Progress} {turns turns' : ℕ} → ReadOn p q true turns → ReadOn p q true turns'
+on_ended r = record { reached = r.reached; not_early = λ f. absurd (true≢false f) }

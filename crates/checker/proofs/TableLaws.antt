@@ -9,13 +9,14 @@ use lib.ListN.{length, take, drop}
 use borrow.Author.Tests.{lt-leb, lt-ltb}
 use Rattle.text.proofs.Bools.{by_test}
 use Rattle.buffer.proofs.KeptLaws.{take_again}
-use Rattle.table.specs.Rows.{Table}
+use Rattle.table.specs.declared.Table.{Table}
 use Rattle.table.specs.Noted.{noted, empty_table}
 use Rattle.checker.specs.Setting.{empty_register}
 use Rattle.checker.specs.Bare.{bare}
 use Rattle.checker.specs.Lines.{unended, lines_from}
 use Rattle.checker.specs.Program.{judged, notes, table_after}
-use Rattle.checker.specs.Progress.{Progress, progress, start, left, entered, room, raised, ended, more, after, last_table}
+use Rattle.checker.specs.declared.progress.Progress.{Progress}
+use Rattle.checker.specs.Progress.{progress, start, left, entered, room, raised, ended, more, after, last_table}
 use Rattle.checker.proofs.Enough.{Alike, noted_alike, kept_ended, kept_last}
 
 -- the table behind the lines from a number on, of which line one is not noted
@@ -59,13 +60,13 @@ module _ (b : ℕ) (s whole : List ℕ) (number : ℕ) (register : List ℕ) (ta
   abbrev lines_by : Bool → Table
   lines_by t = behind number register table (cond t (bare whole ∷ lines_from [] s) (lines_from (whole ++ (b ∷ [])) s))
 
-  line_ends : 1 ≤ number → last_table (after next s) ≡ behind (raised number) next.register next.table (lines_from [] s)
+  line_ends : 1 ≤ number → last_table (after next s) ≡ behind (raised number) next.carried.register next.carried.table (lines_from [] s)
       → table_by true ≡ lines_by true
   line_ends h e =
       let later : leb (raised number) 1 ≡ false = lt-leb (raised number) 1 (omega arith) in
       e
       ∙ ap
-      (λ (x : Bool). cond x (notes next.register next.table (drop 1 (lines_from [] s))) (notes next.register next.table (lines_from [] s)))
+      (λ (x : Bool). cond x (notes next.carried.register next.carried.table (drop 1 (lines_from [] s))) (notes next.carried.register next.carried.table (lines_from [] s)))
       later
       ∙ one_line number line (bare whole) register table (lines_from [] s) (kept_ended whole register)
 
@@ -87,7 +88,7 @@ all_noted (b ∷ s) whole number register table h =
     by_cases b s whole number register table (eqb b 10)
     (λ t.
     let p : Progress = next b s whole number register table in
-    line_ends b s whole number register table h (all_noted s [] (raised number) p.register p.table (omega arith)))
+    line_ends b s whole number register table h (all_noted s [] (raised number) p.carried.register p.carried.table (omega arith)))
     (λ t. line_goes_on b s whole number register table (all_noted s (whole ++ (b ∷ [])) number register table h))
 
 -- the whole input, from the start

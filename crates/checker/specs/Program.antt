@@ -5,7 +5,7 @@ use Rattle.std.specs.Prelude.{ℕ, ◌+◌, List, [], ◌∷◌, ◌++◌, drop}
 use Rattle.verdict.specs.Codes.{code_count}
 use Rattle.judge.specs.Outcome.{Outcome, outcome}
 use Rattle.day.specs.Summary.{Handed}
-use Rattle.table.specs.Rows.{Table}
+use Rattle.table.specs.declared.Table.{Table}
 use Rattle.table.specs.Noted.{noted, empty_table}
 use Rattle.checker.specs.Setting.{empty_register, called}
 use Rattle.checker.specs.Lines.{lines_of}

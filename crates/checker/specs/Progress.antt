@@ -1,27 +1,19 @@
 -- Where the program stands between two bytes of its input, and what it writes on the way. The input comes in chunks, cut anywhere.
-use Rattle.std.specs.Prelude.{ℕ, suc, ◌+◌, ◌≤◌, min, ◌≡◌, Bool, false, cond, List, [], ◌∷◌, ◌++◌, eqb, leb, ltb, ℤ, length, take}
-use Rattle.io.specs.Counts.{clamp_len}
-use Rattle.table.specs.Rows.{Table, table_in}
+use Rattle.std.specs.Prelude.{ℕ, suc, ◌+◌, ◌≤◌, min, ◌≡◌, Bool, false, cond, List, [], ◌∷◌, ◌++◌, eqb, leb, ltb, length, take}
+use Rattle.table.specs.declared.Table.{Table}
 use Rattle.table.specs.Noted.{noted, empty_table}
+use Rattle.checker.specs.declared.progress.Carried.{Carried}
+use Rattle.checker.specs.declared.progress.Progress.{Progress}
 use Rattle.checker.specs.Setting.{empty_register}
 use Rattle.checker.specs.Bare.{bare}
-use Rattle.judge.specs.Outcome.{Outcome}
-use Rattle.printing.specs.Printed.{longest}
 use Rattle.checker.specs.Program.{answer_to, judged}
 
+abbrev pub carried : ℕ → List ℕ → Table → Carried
+carried number register table = record { number = number; register = register; table = table }
+
 -- the bytes kept of the line that has begun, its number, the register, and the table of the summary
-pub record Progress : Type 0 where
-  pub begun : List ℕ
-  pub number : ℕ
-  pub register : List ℕ
-  pub table : Table
-
 abbrev pub progress : List ℕ → ℕ → List ℕ → Table → Progress
-progress begun number register table = record { begun = begun; number = number; register = register; table = table }
-
--- by the program's buffers: the first bytes of one are kept, and rows are the table
-abbrev pub held : List ℕ → ℕ → ℕ → List ℕ → List (List ℕ) → List (List ℕ) → Progress
-held line kept number register names numbers = progress (take kept line) number register (table_in names numbers)
+progress begun number register table = record { begun = begun; carried = carried number register table }
 
 abbrev pub start : Progress
 start = progress [] 1 empty_register empty_table
@@ -46,18 +38,18 @@ raised number = min (number + 1) 18446744073709551615
 
 abbrev pub ended : Progress → Progress
 ended p =
-    progress [] (raised p.number) (left p.number (bare p.begun) p.register)
-    (entered p.number (bare p.begun) p.register p.table)
+    progress [] (raised p.carried.number) (left p.carried.number (bare p.begun) p.carried.register)
+    (entered p.carried.number (bare p.begun) p.carried.register p.carried.table)
 
 abbrev pub more : Progress → ℕ → Progress
-more p b = progress (take room (p.begun ++ (b ∷ []))) p.number p.register p.table
+more p b = progress (take room (p.begun ++ (b ∷ []))) p.carried.number p.carried.register p.carried.table
 
 -- one byte: LF ends the line
 abbrev pub step : Progress → ℕ → Progress
 step p b = cond (eqb b 10) (ended p) (more p b)
 
 abbrev pub said : Progress → ℕ → List ℕ
-said p b = cond (eqb b 10) (told p.number (bare p.begun) p.register) []
+said p b = cond (eqb b 10) (told p.carried.number (bare p.begun) p.carried.register) []
 
 -- where it stands behind some bytes, and what it has written for them
 unfoldable pub after : Progress → List ℕ → Progress
@@ -70,10 +62,10 @@ writes p (b ∷ s) = said p b ++ writes (step p b) s
 
 -- what it writes at the end of the input, where a line may have begun, and the table then
 abbrev pub last_answer : Progress → List ℕ
-last_answer p = cond (ltb 0 (length p.begun)) (told p.number p.begun p.register) []
+last_answer p = cond (ltb 0 (length p.begun)) (told p.carried.number p.begun p.carried.register) []
 
 abbrev pub last_table : Progress → Table
-last_table p = cond (ltb 0 (length p.begun)) (entered p.number p.begun p.register p.table) p.table
+last_table p = cond (ltb 0 (length p.begun)) (entered p.carried.number p.begun p.carried.register p.carried.table) p.carried.table
 
 -- all that is written for an input that comes in chunks, and at its end
 unfoldable pub writes_all : Progress → List (List ℕ) → List ℕ
@@ -89,23 +81,15 @@ line_end (b ∷ s) = cond (eqb b 10) 0 (suc (line_end s))
 abbrev pub up_to_end : List ℕ → ℕ
 up_to_end chunk = min (length chunk) (line_end chunk + 1)
 
--- The outcome of a line stands printed in the first n bytes of a buffer that has room for the longest, its register is kept, and the
--- line is noted in the table.
-pub record Answered (number : ℕ) (line : List ℕ) (o : Outcome) (table : Table) (before after : List ℕ) (n : ℕ) (register : List ℕ) (table' : Table) : Type 0 where
-  pub prints : longest ≤ length before → take n after ≡ answer_to number o
-  pub keeps : register ≡ o.register
-  pub notes : table' ≡ noted table line o.verdict
+-- What is put for a line is its outcome, its register is kept, and the line is noted in the table.
+pub record Answered (c : Carried) (line put : List ℕ) (c' : Carried) : Type 0 where
+  pub prints : put ≡ answer_to c.number (judged line c.register)
+  pub carries : c' ≡ carried c.number (judged line c.register).register (noted c.table line (judged line c.register).verdict)
 
--- What is written for a line stands in the first n bytes of a buffer that has room for the longest; register and table are those behind it.
-pub record Told (number : ℕ) (line register : List ℕ) (table : Table) (before after : List ℕ) (n : ℕ) (register' : List ℕ) (table' : Table) : Type 0 where
-  pub prints : longest ≤ length before → take n after ≡ told number line register
-  pub keeps : register' ≡ left number line register
-  pub notes : table' ≡ entered number line register table
-
--- the room that a turn needs: for what is kept of a line, and for what is written
-pub record Roomy (line out : List ℕ) : Type 0 where
-  pub for_line : length line ≡ room
-  pub for_answer : longest ≤ length out
+-- What is put is what is written for a line; register and table are those behind it.
+pub record Told (c : Carried) (line put : List ℕ) (c' : Carried) : Type 0 where
+  pub prints : put ≡ told c.number line c.register
+  pub carries : c' ≡ carried c.number (left c.number line c.register) (entered c.number line c.register c.table)
 
 -- A turn takes the bytes of a chunk up to the first LF, stands behind them, and puts what is written for them.
 pub record Advanced (p : Progress) (chunk : List ℕ) (used : ℕ) (q : Progress) (put : List ℕ) : Type 0 where
@@ -125,27 +109,17 @@ pub data Run : List ℕ → Progress → List ℕ → Type 0 where
       {taken output chunk put : List ℕ} {p q : Progress} {used : ℕ} → Run taken p output → Advanced p chunk used q put
       → Run (taken ++ take used chunk) q (output ++ put)
 
--- A chunk is taken whole, unless a call failed.
-pub record Took (p : Progress) (chunk : List ℕ) (q : Progress) (ended failed : Bool) : Type 0 where
-  pub goes_on : ended ≡ false
-  pub stands : failed ≡ false → q ≡ after p chunk
-
--- the bytes that a read put into a chunk, by what it answered
-abbrev pub read_in : ℤ → List ℕ → List ℕ
-read_in got chunk = take (clamp_len got (length chunk)) chunk
-
--- They are taken, and where there are none the input has ended, unless a call failed.
-pub record TookRead (got : ℤ) (chunk : List ℕ) (p q : Progress) (ended failed : Bool) : Type 0 where
-  pub stands : failed ≡ false → q ≡ after p (read_in got chunk)
-  pub at_end : failed ≡ false → ended ≡ eqb (length (read_in got chunk)) 0
+-- The bytes that a read gave are taken whole, and where there are none the input has ended.
+pub record TookRead (given : List ℕ) (p q : Progress) (ended : Bool) : Type 0 where
+  pub stands : q ≡ after p given
+  pub at_end : ended ≡ eqb (length given) 0
 
 -- where some bytes lead, whatever they are
 pub record Reached (p q : Progress) : Type 0 where
   pub bytes : List ℕ
   pub there : q ≡ after p bytes
 
--- Reads go on until the input has ended. Each gives a byte at least, so where it has not, there were 2^64 - 1 bytes, but for the
--- turns that are left.
+-- Reads go on until the input has ended. Each gives a byte at least, so where it has not, there were as many bytes as turns.
 pub record ReadOn (p q : Progress) (ended : Bool) (turns : ℕ) : Type 0 where
   pub reached : Reached p q
-  pub not_early : ended ≡ false → 18446744073709551615 ≤ turns + length reached.bytes
+  pub not_early : ended ≡ false → turns ≤ length reached.bytes

@@ -8,25 +8,15 @@ ghost use Rattle.checker.specs.Progress.{line_end};
 pub fn bare(s: &[u8]) -> &[u8]
     ensures { result.now ≡ Bare·bare s.now }
 {
-    if 0 < s.len() {
-        let last = s.len() - 1;
-        if s[last] == b'\r' {
-            return text::head(s, last);
-        }
+    match s {
+        [line @ .., b'\r'] => line,
+        _ => s,
     }
-    s
 }
 
 // The place of the first LF, or the length.
 pub fn line_end(s: &[u8]) -> usize
     ensures { result ≡ line_end s.now }
 {
-    let mut i = 0;
-    while i < s.len() {
-        if s[i] == b'\n' {
-            return i;
-        }
-        i += 1;
-    }
-    i
+    s.iter().position(|&b| b == b'\n').unwrap_or(s.len())
 }

@@ -15,6 +15,7 @@ pub const RECORD_COUNT: usize = MOST_RECORDS;
 
 pub const ROW_COUNT: usize = RECORD_COUNT + 1;
 
+#[derive(Drop)]
 pub struct Table {
     pub records: [Record; RECORD_COUNT],
     pub common: Record,

@@ -1,15 +1,10 @@
-use Rattle.checker.proofs.LineEndLaws.{end_start, end_here, end_on, end_none}
-use native.Mathlib.Omega.{arith}
+use Rattle.std.proofs.Common.{rules, tests, ◌==◌, ◌∙◌}
+use Rattle.std.proofs.lemmas.Iterator.{YieldsList-from_slice}
+use Rattle.std.proofs.lemmas.Iterator.Search.{position_from_yields_List}
+use Rattle.checker.proofs.LineEndLaws.{end_found}
 use Rattle.checker.proofs.lines.line_end.Goals as goal
 
-pub loop-i-init : goal.loop-i-init
-loop-i-init c = end_start
-
-pub returns-then-s-i-eq10 : goal.returns-then-s-i-eq10
-returns-then-s-i-eq10 c = end_here c.loop-i.invariant (omega arith) c.if-s-i-eq10.true
-
-pub loop-i-preserved : goal.loop-i-preserved
-loop-i-preserved c = end_on c.loop-i.invariant (omega arith) c.if-s-i-eq10.false
-
 pub returns : goal.returns
-returns c = end_none c.loop-i.invariant (omega arith)
+returns c =
+    let e = position_from_yields_List (λ b. b == 10) _ _ c.position.result c.position.ensures.ran (YieldsList-from_slice c.args.s.now cc) (λ x b q k. search (rules, tests)) in
+    (rw e at c.unwrap_or.ensures) ∙ end_found c.args.s.now

@@ -1,9 +1,0 @@
-use Rattle.checker.proofs.AnswerLaws.{outcome_counted, answered}
-use Rattle.checker.specs.Setting.{called}
-use Rattle.checker.specs.Program.{judged}
-use Rattle.verdict.specs.Codes.{code_count}
-use Rattle.checker.proofs.answer.Goals as goal
-
-pub returns : goal.returns
-unfolding judged
-returns c = answered (outcome_counted (called c.args.line.now c.args.register.now) code_count) c.judge-verdict.ensures c.note.ensures.table_is c.listed.ensures c.keep_answer.ensures
