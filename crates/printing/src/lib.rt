@@ -41,7 +41,13 @@ pub fn listed(findings: &[u16], count: u16) -> &[u16]
     findings.get(..usize::from(count)).unwrap_or(findings)
 }
 
-pub fn keep_answer<const N: usize>(out: &mut Text<N>, number: u64, answer: u16, count: u16, codes: &[u16])
+pub fn keep_answer<const N: usize>(
+    out: &mut Text<N>,
+    number: u64,
+    answer: u16,
+    count: u16,
+    codes: &[u16],
+)
     ensures { out.new ≡ added N out.old (printed number answer count codes.now) }
 {
     keep_number(out, number);

@@ -6,12 +6,7 @@ use crate::{Noted, Record, counted, entered, judged_line, reach, stops};
 use verdict::Verdict;
 
 // Finds the record of the line's entity, or the first free one, and counts the line there; else in the common record.
-pub fn note(
-    records: &mut [Record],
-    common: &mut Record,
-    line: &[u8],
-    verdict: Verdict,
-) -> Noted
+pub fn note(records: &mut [Record], common: &mut Record, line: &[u8], verdict: Verdict) -> Noted
     ensures { Noting (note_of records.old common.old (line_of line.now verdict)) result records.new common.new }
 {
     let l = judged_line(line, verdict);
