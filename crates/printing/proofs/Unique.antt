@@ -11,8 +11,8 @@ use Rattle.printing.proofs.listed.Kinds as listed_kinds
 use Rattle.printing.proofs.listed.Reads as listed_reads
 use Rattle.printing.proofs.keep_answer.Kinds as keep_answer_kinds
 use Rattle.printing.proofs.keep_answer.Reads as keep_answer_reads
-use Rattle.printing.proofs.keep_row.Kinds as keep_row_kinds
-use Rattle.printing.proofs.keep_row.Reads as keep_row_reads
+use Rattle.printing.proofs.report.keep_row.Kinds as keep_row_kinds
+use Rattle.printing.proofs.report.keep_row.Reads as keep_row_reads
 
 pub listed_determined : Seen listed_kinds.ps listed_kinds.r (λ κs x. x.now) listed_reads.Post
 listed_determined κs a x y s t = same_both
