@@ -18,7 +18,7 @@ use Rattle.verdict.proofs.Promises.{code_count_lem}
 use Rattle.buffer.specs.Text.{added}
 use Rattle.buffer.proofs.TextLaws.{added_none, added_then, added_on}
 use Rattle.summary.specs.declared.Record.{Record}
-use Rattle.printing.specs.Printed.{decimal, spaced, longest}
+use Rattle.printing.specs.Printed.{decimal, spaced}
 use Rattle.printing.specs.Report.{count_text, count_texts, headings_of, record_text, longest_count, KeptWithin, Put}
 use Rattle.printing.proofs.DecimalLaws.{digits_under, spaced_join, spaced_short}
 

@@ -10,7 +10,6 @@ use lib.ListN.{length, take, get_or}
 use lib.Seq.{take_all}
 use borrow.Author.Tests.{lt-ltb, le-ltb, eq-eqb, ne_eqb}
 use Rattle.text.proofs.Bools.{cond_yes, cond_no}
-use Rattle.buffer.specs.Text.{added}
 use Rattle.buffer.proofs.TextLaws.{added_none}
 use Rattle.summary.specs.declared.Record.{Record}
 use Rattle.summary.specs.Noting.{free}

@@ -1,11 +1,7 @@
 -- Each public function's contract determines its answer, and all that is kept.
-use mathlib.Core.Path.{◌≡◌}
 use Prim.Native.Nat.{ℕ}
 use mir.Syntax.{w64}
 use mir.Val.{Fits}
-use contract.Lifetimes.{Lfts}
-use denote.Triple.Clauses.{AtExit}
-use borrow.Fn.Kinds.{Dens, res_t, ended_of}
 use Rattle.text.proofs.Determined.{Seen, Left, same_both}
 use Rattle.printing.proofs.listed.Kinds as listed_kinds
 use Rattle.printing.proofs.listed.Reads as listed_reads

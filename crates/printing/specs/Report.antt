@@ -1,6 +1,6 @@
 -- What is printed for the day's summary: a line of its own for the word, then one for each entity's record in the order of the table, then
 -- one for the common record.
-use Rattle.std.specs.Prelude.{ℕ, ◌+◌, ◌≤◌, ◌≡◌, cond, List, [], ◌∷◌, ◌++◌, eqb, ltb, length, take, get_or}
+use Rattle.std.specs.Prelude.{ℕ, ◌+◌, ◌≤◌, ◌≡◌, cond, List, [], ◌∷◌, ◌++◌, eqb, ltb, length, get_or}
 use Rattle.text.specs.Ascii.{ascii}
 use Rattle.verdict.specs.Codes.{codes}
 use Rattle.buffer.specs.Text.{added}

@@ -1,8 +1,7 @@
-use Rattle.std.proofs.Common.{rules, ◌≡◌, ◌∙◌, ◌<◌, ◌≤◌, ◌+◌, arith, length, length-append, sym, ap, get_or}
+use Rattle.std.proofs.Common.{rules, ◌≡◌, arith, length-append}
 use Rattle.std.proofs.lemmas.Slice.Zip.{zip_turn, zip_end}
 use Rattle.std.specs.Iterator.Adapters.{zip_first, zip_second}
 use Rattle.std.specs.Slice.Iter.{iter_rest}
-use Rattle.printing.specs.Report.{count_text}
 use Rattle.printing.proofs.ReportLaws.{counts_start, counts_on, counts_all, counts_short}
 use Rattle.printing.proofs.report.keep_counts.Goals as goal
 

@@ -1,5 +1,5 @@
 use Rattle.std.proofs.Common.{◌≡◌, ◌≤◌, length}
-use Rattle.summary.specs.Noting.{most_records, entity_of, reach_of}
+use Rattle.summary.specs.Noting.{most_records, entity_of}
 use Rattle.summary.proofs.SearchLaws.{NotYet}
 use Rattle.summary.proofs.noting.note.Given as goal
 
