@@ -1,4 +1,4 @@
-// A buffer that is filled from its start: what has no room is dropped.
+// A buffer that is filled from its start: what has no room is dropped. `Text` is one; `keep` and `keep_all`, which it stands on, fill a lent slice.
 #![tactic(auto)]
 
 ghost use Rattle.std.specs.Prelude.{[], ◌∷◌};

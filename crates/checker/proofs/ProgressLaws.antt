@@ -7,19 +7,16 @@ use native.Mathlib.Omega.{arith}
 use lib.Dec.{eqb, ltb}
 use lib.ListN.{length, take, drop, length-append, length-take, length-drop}
 use lib.Seq.{take_all, take-add}
-use borrow.Author.Tests.{eq-eqb, ne_eqb, eqb-false, le-leb, lt-leb, lt-ltb, le-ltb}
+use borrow.Author.Tests.{ne_eqb, eqb-false, le-leb, lt-leb, lt-ltb, le-ltb}
 use Rattle.text.proofs.Bools.{by_test}
 use Rattle.table.specs.declared.Table.{Table}
-use Rattle.table.specs.Noted.{empty_table}
 use Rattle.buffer.specs.Text.{added}
 use Rattle.buffer.proofs.KeptLaws.{take_again}
 use Rattle.buffer.proofs.TextLaws.{added_least, added_front}
-use Rattle.checker.specs.Setting.{empty_register}
 use Rattle.checker.specs.Bare.{bare}
-use Rattle.checker.specs.Program.{judged}
 use Rattle.checker.specs.declared.progress.Carried.{Carried}
 use Rattle.checker.specs.declared.progress.Progress.{Progress}
-use Rattle.checker.specs.Progress.{carried, progress, start, told, left, entered, room, raised, ended, more, step, said, after, writes, line_end, Answered, Told, Advanced, Finished, TookRead, Reached, ReadOn}
+use Rattle.checker.specs.Progress.{progress, start, told, left, entered, room, raised, ended, more, step, said, after, writes, line_end, Answered, Told, Advanced, Finished, TookRead, Reached, ReadOn}
 use Rattle.checker.proofs.LineEndLaws.{end_now, end_next, end_within, with_end}
 
 pub after_append : (p : Progress) (s t : List ℕ) → after p (s ++ t) ≡ after (after p s) t

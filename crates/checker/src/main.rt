@@ -43,6 +43,7 @@ fn take_chunk(rt: &impl Print, progress: &mut Progress, chunk: &[u8]) -> Result<
 {
     let mut out = Answer::new();
     let mut at = 0;
+    // A `while`: a turn takes as many bytes as `advance` says, and `turns` and `turn_takes` (proofs/Program.antt) speak of such turns.
     while at < chunk.len() {
         at += progress.advance(text::rest(chunk, at), &mut out);
         if rt.write_all(out.as_slice()).is_err() {

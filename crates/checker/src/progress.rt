@@ -34,7 +34,7 @@ pub struct Progress {
     pub carried: Carried,
 }
 
-// Mark TRN, version 1, no row used, room for 4 rows of 74 bytes.
+// Mark TRN, version 1, no row used, room for 4 rows of 74 bytes. A constant would be the 305 bytes written out.
 fn empty_register() -> [u8; 305]
     ensures { result ≡ empty_register }
 {
