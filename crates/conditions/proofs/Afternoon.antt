@@ -32,7 +32,7 @@ use Rattle.register.specs.Rows.{rows_in, own_from, look, first_row, standing}
 use Rattle.register.specs.Written.{restated, appended, put, set_cancelled}
 use Rattle.register.specs.Conversion.{undated, in_version2, conversion_answer, converted}
 use Rattle.cfi.specs.Rules.{words, rules, any, matches, broken, violated}
-use Rattle.cfi.specs.Table.{spaced, text_of, rows_from as rows_from_cfi, matches_in, row_broken, marked}
+use Rattle.cfi.specs.Table.{marked}
 use Rattle.facts.specs.Rules.{good_cells, pair_stands, holdings, flags, polish_flags, all_flags}
 use Rattle.baskets.specs.Items.{in_front, all_right}
 use Rattle.baskets.specs.Underlying.{kind_named}
@@ -51,7 +51,7 @@ step day line register o run e =
 
 -- each call
 pub afternoon : Afternoon
-unfolding all_of first_from digit_of numeral number_of two_digits four_digits suits shape starts_with same among one_of day_written leap month_length is_day five_years_before is_time is_ending micro_written is_moment_cell when_of is_moment named well_formed identifier_of party_with value_of digits_of written_digits decimal point_at whole decimals is_decimal without_last_zeros fewest_decimals value_of_amount tagged price_of quantity_of cells_of cell status_of form_finding form_findings holds form_of framed_as chunks rows_from some version day_width used capacity framed full is_used filled pair_bytes rows_in own_from look first_row standing restated appended put set_cancelled undated in_version2 conversion_answer converted words rules any matches broken violated spaced text_of rows_from_cfi matches_in row_broken marked good_cells pair_stands holdings flags polish_flags moment_of day_of lei_good_unlapsed lei_good lei_wrong country_wrong party_lei_good party_lei_wrong party_country_wrong party_mic_wrong party_shape_wrong birth_wrong is_late is_past is_entity currency_wrong quantity_currency_wrong second_currency isin_wrong not_before too_old held_word held_quantity held_price held_swap in_front all_right kind_named rule_codes form_codes polish_codes codes word_of pick verdict_of refused_by written outcome all_flags clean no_room refusal
+unfolding all_of first_from digit_of numeral number_of two_digits four_digits suits shape starts_with same among one_of day_written leap month_length is_day five_years_before is_time is_ending micro_written is_moment_cell when_of is_moment named well_formed identifier_of party_with value_of digits_of written_digits decimal point_at whole decimals is_decimal without_last_zeros fewest_decimals value_of_amount tagged price_of quantity_of cells_of cell status_of form_finding form_findings holds form_of framed_as chunks rows_from some version day_width used capacity framed full is_used filled pair_bytes rows_in own_from look first_row standing restated appended put set_cancelled undated in_version2 conversion_answer converted words rules any matches broken violated marked good_cells pair_stands holdings flags polish_flags moment_of day_of lei_good_unlapsed lei_good lei_wrong country_wrong party_lei_good party_lei_wrong party_country_wrong party_mic_wrong party_shape_wrong birth_wrong is_late is_past is_entity currency_wrong quantity_currency_wrong second_currency isin_wrong not_before too_old held_word held_quantity held_price held_swap in_front all_right kind_named rule_codes form_codes polish_codes codes word_of pick verdict_of refused_by written outcome all_flags clean no_room refusal
 afternoon =
     record {
       too_early = refl;
