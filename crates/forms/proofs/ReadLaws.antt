@@ -2,10 +2,8 @@
 use mathlib.Core.Path.{◌≡◌, refl, sym}
 use mathlib.Core.Bool.{Bool, true, false, not, cond, ◌&&◌, ◌||◌}
 use mathlib.Core.List.{List, ◌++◌, map}
-use Prim.Native.Nat.{ℕ, suc, ◌+◌, ◌<◌}
-use native.Mathlib.Numerals.{add-one}
-use native.Mathlib.Omega.{arith}
-use lib.ListN.{length, get_or, drop, set, replicate}
+use Prim.Native.Nat.{ℕ}
+use lib.ListN.{replicate}
 use borrow.Rule.Slice.PartMut.{put_mid}
 use Rattle.text.specs.Number.{count_from}
 use Rattle.cells.specs.Cells.{cell}

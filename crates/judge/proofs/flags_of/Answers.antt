@@ -1,5 +1,4 @@
 use mathlib.Core.Path.{◌≡◌, ◌∙◌}
-use Rattle.forms.specs.declared.read.Read.{Read}
 use Rattle.facts.specs.Call.{call}
 use Rattle.facts.specs.Words.{moment_in}
 use Rattle.facts.specs.Asked.{asked_of}

@@ -1,7 +1,7 @@
 use mathlib.Core.Bool.{false, not}
 use mathlib.Core.Path.{◌≡◌}
 use mathlib.Core.List.{◌∷◌, map}
-use Prim.Native.Nat.{◌≤◌, ◌+◌, ◌-◌}
+use Prim.Native.Nat.{◌≤◌, ◌+◌}
 use lib.ListN.{length}
 use Rattle.text.proofs.Fill.{Begun}
 use Rattle.facts.proofs.lines.good_cells.Given as goal
