@@ -84,10 +84,8 @@ walked_on {j} {k} {i = i} first second =
 
 -- the pass goes on while there are bytes and not too many bars
 module _ {line places : List ℕ} {bars i : ℕ} (met : Met line places bars i) where
-  pub one_ahead : (ltb i (length line) && leb bars 64) ≡ true → Ahead 1 line places bars i
-  one_ahead t =
-      let h = ltb-true i (length line) (and_left _ (leb bars 64) t) in
-      record { met = met; bytes = omega arith; entries = omega (arith, leb-true bars 64 (and_right (ltb i (length line)) _ t)) }
+  pub one_ahead : i < length line → bars ≤ 64 → Ahead 1 line places bars i
+  one_ahead h k = record { met = met; bytes = omega arith; entries = omega arith }
 
   pub sixteen_ahead : (leb (i + 16) (length line) && leb bars 64) ≡ true → Ahead 16 line places bars i
   sixteen_ahead t =
@@ -100,15 +98,13 @@ module _ {line places : List ℕ} {bars i : ℕ} (met : Met line places bars i) 
   met_end : length line ≤ i → Met line places bars (length line)
   met_end h = let e : i ≡ length line = omega (arith, met.within) in rw e at met
 
-  pub over : (ltb i (length line) && leb bars 64) ≡ false → Over line places bars
-  over t =
-      by_test (ltb i (length line))
-      (λ y.
-      let h : 64 < bars = leb-false bars 64 (rw y at t) in
-      record { whole = λ e. absurd (omega arith); other = λ e f. omega (arith, f, met.count) })
-      (λ n.
-      let m : Met line places bars (length line) = met_end (ltb-false i (length line) n) in
-      record { whole = λ e. rw e at m; other = λ e f. omega (arith, e, f, m.count, ap bars_of (drop-length line)) })
+  pub over_many : 64 < bars → Over line places bars
+  over_many h = record { whole = λ e. absurd (omega arith); other = λ e f. omega (arith, f, met.count) }
+
+  pub over_end : length line ≤ i → Over line places bars
+  over_end h =
+      let m : Met line places bars (length line) = met_end h in
+      record { whole = λ e. rw e at m; other = λ e f. omega (arith, e, f, m.count, ap bars_of (drop-length line)) }
 
 pub not_whole_lem : {line places : List ℕ} {bars : ℕ} → Over line places bars → (bars ≡ 64 → ⊥) → None ≡ split_of line
 unfolding split_of

@@ -41,10 +41,11 @@ fn last_steps(line: &[u8], at: usize, places: &mut [usize; 80], before: usize) -
     ensures { Over line.now places.new result }
 {
     let mut bars = before;
-    let mut i = at;
-    while (i < line.len()) & (bars <= 64) {
+    for i in at..line.len() {
+        if 64 < bars {
+            return bars;
+        }
         bars = step(line, i, places, bars);
-        i += 1;
     }
     bars
 }
@@ -64,7 +65,8 @@ fn from_places<'a>(line: &'a [u8], places: &[usize; 80]) -> SplitLine<'a>
     SplitLine { line, starts, ends }
 }
 
-// Sixteen bytes a turn: whether there are too many bars is asked once for all of them, so that there are places for 16 more.
+// Sixteen bytes a turn: whether there are too many bars is asked once for all of them, so that there are places for 16 more. The place is counted by
+// hand, since it is where the last steps begin: chunks would count it too, and hold no place.
 pub fn split<'a>(line: &'a [u8]) -> Option<SplitLine<'a>>
     ensures { in_places result ≡ split_of line.now }
 {

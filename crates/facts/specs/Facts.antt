@@ -162,13 +162,7 @@ facts_from line read asked standing day micro =
     facts_with (parties_from line read asked.parties (moment_in read.moment).day) (time_from line read day micro)
     (trade_from line asked.venue asked.instrument (holdings line) read.underlying) line asked standing
 
--- 3307 to 3309 of the parties with a date; of 57 and 59; and of all
-unfoldable pub polish_dated : List ℕ → Polish
-polish_dated line = record { form = some_party form_wrong line; check = some_party check_wrong line; birth = some_dated born_wrong line }
-
-unfoldable pub polish_undated : List ℕ → Polish
-polish_undated line = record { form = some_trader form_wrong line; check = some_trader check_wrong line; birth = false }
-
+-- 3307 to 3309
 unfoldable pub polish_facts : List ℕ → Polish
 polish_facts line = record { form = some_cell form_wrong line; check = some_cell check_wrong line; birth = some_dated born_wrong line }
 

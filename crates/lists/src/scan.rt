@@ -3,7 +3,7 @@ ghost use Rattle.std.specs.Prelude.{◌≡◌};
 ghost use Rattle.lists.specs.Questions.{list_says};
 
 use crate::rows::{Answers, List};
-use text::{begins_with, next_row, starts_with, word};
+use text::{begins_with, next_row, word};
 
 // What some row with the key says. A row is read behind its key only if the key is the one asked for, and the pass ends where every answer
 // is found.

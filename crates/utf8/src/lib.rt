@@ -10,7 +10,8 @@ ghost use Rattle.utf8.specs.Abnf.{first, awaited, after, starts, ended, points, 
 use text::{Class, all_of};
 
 // What may come next: the first byte of a code point or the end; or a byte of a range and then a number of
-// continuation bytes; or nothing, since the bytes so far begin no text.
+// continuation bytes; or nothing, since the bytes so far begin no text. Three cases, as the definitions have them: an
+// Option of the first two would ask for each twice.
 #[derive(Clone, Copy)]
 enum Next {
     First,

@@ -1,18 +1,15 @@
-use Rattle.cells.proofs.PassLaws.{one_ahead, over}
+use Rattle.cells.proofs.PassLaws.{one_ahead, over_many, over_end}
 use native.Mathlib.Omega.{arith}
 use Rattle.cells.proofs.pass.last_steps.Goals as goal
 
 pub step-bars-requires : goal.step-bars-requires
-step-bars-requires c = one_ahead c.loop-i.invariant c.loop-i-test.true
+step-bars-requires c = one_ahead c.loop-i.invariant (omega arith) (omega arith)
 
-pub overflow_add-i : goal.overflow_add-i
-overflow_add-i c = omega (arith, (one_ahead c.loop-i.invariant c.loop-i-test.true).bytes)
-
-pub loop-i-smaller : goal.loop-i-smaller
-loop-i-smaller c = omega (arith, (one_ahead c.loop-i.invariant c.loop-i-test.true).bytes)
+pub returns-then-bars-gt64 : goal.returns-then-bars-gt64
+returns-then-bars-gt64 c = over_many c.loop-i.invariant (omega arith)
 
 pub returns : goal.returns
-returns c = over c.loop-i.invariant c.loop-i-test.false
+returns c = over_end c.loop-i.invariant (omega arith)
 
 pub loop-i-init : goal.loop-i-init
 loop-i-init c = c.requires
