@@ -1,4 +1,7 @@
 // Codes 290 to 570, of a line that is NEW.
+//
+// That the line is NEW and the facts are those of the call stands in the contract of each group and in no type: a struct could hold the facts
+// and no call for its ghost field to speak of.
 ghost use Rattle.std.specs.Prelude.{◌≡◌, true, map};
 ghost use Rattle.facts.specs.Call.{Call};
 ghost use Rattle.facts.specs.Rules.{is_new, given, rules4, rules5, rules6};
