@@ -1,5 +1,5 @@
 // Reading the fields of a file of cases.
-ghost use Rattle.std.specs.Prelude.{◌≤◌, IfOk, length};
+ghost use Rattle.std.specs.Prelude.{◌≡◌, ◌≤◌, IfOk, length};
 
 use std::fmt;
 use std::io::{Input, Read};
@@ -43,7 +43,8 @@ pub fn read_number(rt: &impl Input) -> Result<u32, Fault> {
 
 // The next n bytes, in a room of as many as the field may have.
 pub fn read_part<'a>(rt: &impl Input, room: &'a mut [u8], n: usize) -> Result<&'a mut [u8], Fault>
-    ensures { IfOk result (λ _. n ≤ length room.old) }
+    ensures fits { IfOk result (λ _. n ≤ length room.old) }
+    ensures part { IfOk result (λ part. length part.now ≡ n) }
 {
     let part = room.get_mut(..n).ok_or(Fault::OverLimit)?;
     match rt.reader().read_exact(part) {
@@ -53,7 +54,9 @@ pub fn read_part<'a>(rt: &impl Input, room: &'a mut [u8], n: usize) -> Result<&'
 }
 
 // A field that has its length in front of it.
-pub fn read_field<'a>(rt: &impl Input, room: &'a mut [u8]) -> Result<&'a mut [u8], Fault> {
+pub fn read_field<'a>(rt: &impl Input, room: &'a mut [u8]) -> Result<&'a mut [u8], Fault>
+    ensures { IfOk result (λ field. length field.now ≤ length room.old) }
+{
     let n = read_number(rt)? as usize;
     read_part(rt, room, n)
 }

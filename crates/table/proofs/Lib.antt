@@ -1,2 +1,3 @@
--- That each contract determines its answer.
+-- That a line noted is one record put back, and that each contract determines its answer.
+pub mod NoteLaws
 mod Unique
