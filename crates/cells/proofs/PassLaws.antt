@@ -87,13 +87,8 @@ module _ {line places : List ℕ} {bars i : ℕ} (met : Met line places bars i) 
   pub one_ahead : i < length line → bars ≤ 64 → Ahead 1 line places bars i
   one_ahead h k = record { met = met; bytes = omega arith; entries = omega arith }
 
-  pub sixteen_ahead : (leb (i + 16) (length line) && leb bars 64) ≡ true → Ahead 16 line places bars i
-  sixteen_ahead t =
-      record {
-        met = met;
-        bytes = leb-true (i + 16) (length line) (and_left _ (leb bars 64) t);
-        entries = omega (arith, leb-true bars 64 (and_right (leb (i + 16) (length line)) _ t));
-      }
+  pub sixteen_ahead : i + 16 ≤ length line → bars ≤ 64 → Ahead 16 line places bars i
+  sixteen_ahead h k = record { met = met; bytes = h; entries = omega arith }
 
   met_end : length line ≤ i → Met line places bars (length line)
   met_end h = let e : i ≡ length line = omega (arith, met.within) in rw e at met
@@ -105,6 +100,10 @@ module _ {line places : List ℕ} {bars i : ℕ} (met : Met line places bars i) 
   over_end h =
       let m : Met line places bars (length line) = met_end h in
       record { whole = λ e. rw e at m; other = λ e f. omega (arith, e, f, m.count, ap bars_of (drop-length line)) }
+
+pub too_many : {line places : List ℕ} {bars : ℕ} → Over line places bars → 64 < bars → None ≡ split_of line
+unfolding split_of
+too_many {line} over h = rw (ne_eqb (bars_of line) 64 (over.other (λ e. omega arith)))
 
 pub not_whole_lem : {line places : List ℕ} {bars : ℕ} → Over line places bars → (bars ≡ 64 → ⊥) → None ≡ split_of line
 unfolding split_of

@@ -3,7 +3,7 @@ ghost use Rattle.std.specs.Prelude.{◌≡◌};
 ghost use Rattle.cells.specs.Cells.{cell};
 ghost use Rattle.cells.specs.Split.{Tabled};
 
-// A line, and where its 65 cells start and end.
+// A line, and where its 65 cells start and end: two arrays, which is the form that the paper names for this table.
 #[derive(Clone, Copy)]
 pub struct SplitLine<'a> {
     pub line: &'a [u8],

@@ -5,6 +5,7 @@ ghost use Rattle.cells.specs.Pass.{Met, Ahead, Walked, Over};
 
 use crate::line::SplitLine;
 
+// The steps take line, place, table and count of bars one by one: a struct of them would be written at every byte.
 // One byte of the pass. Its place is written at every byte, and left behind where the byte is a bar: to ask first would cost more,
 // since nothing foretells where a cell ends.
 fn step(line: &[u8], at: usize, places: &mut [usize; 80], bars: usize) -> usize
@@ -15,6 +16,7 @@ fn step(line: &[u8], at: usize, places: &mut [usize; 80], bars: usize) -> usize
     bars + (line[at] == b'|') as usize
 }
 
+// Four steps, and sixteen, in straight line: a loop over them would count once more at every byte.
 fn four_steps(line: &[u8], at: usize, places: &mut [usize; 80], bars: usize) -> usize
     requires { Ahead 4 line.now places.old bars at }
     ensures { Walked 4 line.now places.new bars result at }
@@ -65,19 +67,20 @@ fn from_places<'a>(line: &'a [u8], places: &[usize; 80]) -> SplitLine<'a>
     SplitLine { line, starts, ends }
 }
 
-// Sixteen bytes a turn: whether there are too many bars is asked once for all of them, so that there are places for 16 more. The place is counted by
-// hand, since it is where the last steps begin: chunks would count it too, and hold no place.
+// Sixteen bytes a turn: whether there are too many bars is asked once for all of them, so that there are places for 16 more.
 pub fn split<'a>(line: &'a [u8]) -> Option<SplitLine<'a>>
     ensures { in_places result ≡ split_of line.now }
 {
     let mut places = [0; 80];
     let mut bars = 0;
-    let mut i = 0;
-    while (i + 16 <= line.len()) & (bars <= 64) {
-        bars = sixteen_steps(line, i, &mut places, bars);
-        i += 16;
+    let sixteens = line.len() / 16;
+    for n in 0..sixteens {
+        if 64 < bars {
+            return None;
+        }
+        bars = sixteen_steps(line, 16 * n, &mut places, bars);
     }
-    bars = last_steps(line, i, &mut places, bars);
+    bars = last_steps(line, 16 * sixteens, &mut places, bars);
     if bars != 64 {
         return None;
     }

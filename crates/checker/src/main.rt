@@ -16,6 +16,7 @@ mod progress;
 
 use printing::keep_row;
 use progress::{Answer, Progress};
+use std::fmt;
 use std::io::{Input, Read};
 use std::rt::Env;
 use table::{ROW_COUNT, Table};
@@ -28,13 +29,13 @@ enum Failure {
     Summary,
 }
 
-impl Failure {
-    fn message(self) -> &'static str {
-        match self {
-            Failure::Input => "checker: the input could not be read\n",
-            Failure::Answer => "checker: an answer could not be written\n",
-            Failure::Summary => "checker: the summary could not be written\n",
-        }
+impl fmt::Display for Failure {
+    fn fmt<W: fmt::Write>(&self, f: &mut fmt::Formatter<W>) -> fmt::Result {
+        f.write_str(match self {
+            Failure::Input => "the input could not be read",
+            Failure::Answer => "an answer could not be written",
+            Failure::Summary => "the summary could not be written",
+        })
     }
 }
 
@@ -127,6 +128,6 @@ fn run(rt: &(impl Input + Print + Env)) -> Result<(), Failure> {
 
 fn main(rt: HostRuntime) {
     if let Err(failure) = run(&rt) {
-        let _ = rt.eprint(failure.message());
+        let _ = eprintln!(rt; "checker: {failure}");
     }
 }

@@ -2,7 +2,8 @@
 #![tactic(auto, unfolding(crate::specs::Facts::party_from, crate::specs::Facts::parties_from))]
 
 ghost use Rattle.std.specs.Prelude.{◌≡◌};
-ghost use Rattle.facts.specs.Words.{off};
+ghost use Rattle.cells.specs.Cells.{cell};
+ghost use Rattle.facts.specs.Words.{off, present};
 ghost use Rattle.facts.specs.Facts.{party_from, parties_from};
 
 use crate::answers::{PartiesAsked, PartyAsked};
@@ -38,6 +39,7 @@ pub fn is_off(s: &[u8]) -> bool
     text::same(s, b"XXXX") | text::same(s, b"XOFF")
 }
 
+// `dated`: its date cell is present, which a malformed one is too, so that an Option of the day says less.
 // The party that a cell names, with its date, the day that it writes and what was asked of it, on T.
 pub fn party_facts(
     party: Party,
@@ -68,49 +70,44 @@ pub fn party_facts(
     }
 }
 
+// The party in cell f, with the date in cell d.
+fn facts_in(
+    line: &ReadLine,
+    f: usize,
+    party: Party,
+    d: usize,
+    date: Option<u32>,
+    asked: PartyAsked,
+    t: u32,
+) -> PartyFacts
+    ensures { result ≡ party_from party (cell line.now.split.now.line.now f) (present (cell line.now.split.now.line.now d)) date (cell line.now.split.now.line.now 4) asked t }
+{
+    let dated = line.cell(d).len() != 0;
+    party_facts(party, line.cell(f), dated, date, line.cell(4), asked, t)
+}
+
 pub fn parties_facts(line: &ReadLine, asked: PartiesAsked, t: u32) -> PartiesFacts
     ensures { result ≡ parties_from line.now.split.now.line.now line.now.read asked t }
 {
     let read = &line.read;
-    let entity = line.cell(4);
-    let dated11 = line.cell(11).len() != 0;
-    let dated15 = line.cell(15).len() != 0;
-    let dated20 = line.cell(20).len() != 0;
-    let dated24 = line.cell(24).len() != 0;
     PartiesFacts {
-        buyer: party_facts(
-            read.buyer,
-            line.cell(7),
-            dated11,
-            read.date11,
-            entity,
-            asked.buyer,
-            t,
-        ),
-        buyer_for: party_facts(
+        buyer: facts_in(line, 7, read.buyer, 11, read.date11, asked.buyer, t),
+        buyer_for: facts_in(
+            line,
+            12,
             read.buyer_for,
-            line.cell(12),
-            dated15,
+            15,
             read.date15,
-            entity,
             asked.buyer_for,
             t,
         ),
-        seller: party_facts(
-            read.seller,
-            line.cell(16),
-            dated20,
-            read.date20,
-            entity,
-            asked.seller,
-            t,
-        ),
-        seller_for: party_facts(
+        seller: facts_in(line, 16, read.seller, 20, read.date20, asked.seller, t),
+        seller_for: facts_in(
+            line,
+            21,
             read.seller_for,
-            line.cell(21),
-            dated24,
+            24,
             read.date24,
-            entity,
             asked.seller_for,
             t,
         ),

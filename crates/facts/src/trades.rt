@@ -64,6 +64,7 @@ fn held_at_all(s: &[u8]) -> u8
     2
 }
 
+// What a cell holds is a number here and below, as the rules by CFI take it: 1 for a blank one, from 2 on as the paper lists them.
 // One of three words, numbered from 2 on.
 fn held_word(s: &[u8], first: &[u8], second: &[u8], third: &[u8]) -> u8
     ensures { result ≡ held_word first.now second.now third.now s.now }

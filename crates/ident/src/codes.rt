@@ -46,7 +46,8 @@ fn with_two(k: u64, s: &[u8], at: usize) -> u64
     behind(behind(k, s[at]), s[at + 1])
 }
 
-// With those of four: 8 at most, behind 9.
+// With those of four: 8 at most, behind 9. Each is two of the one before, and the bound of its `requires` goes down with it: the number of characters
+// as a parameter would be a loop where straight line is wanted.
 fn with_four(k: u64, s: &[u8], at: usize) -> u64
     requires { (k < 97 * 10 ^ 9) × (at + 4 ≤ length s.now) }
     ensures { result ≡ decimal k (written_digits (take 4 (drop at s.now))) }
@@ -71,8 +72,8 @@ fn with_last(k: u64, s: &[u8]) -> u64
     v
 }
 
-// By 97, of the number that the characters write. Counted by eights, since the law of what is left (`left_on`) is over places. One division takes eight of them: they are 16 digits at most, and nine
-// could be 18.
+// By 97, of the number that the characters write. One division takes eight of them: they are 16 digits at most, and nine
+// could be 18. Counted by eights, since the law of what is left (`left_on`) is over places.
 pub fn lei_remainder(s: &[u8]) -> u32
     ensures { result ≡ written s.now % 97 }
 {

@@ -34,6 +34,7 @@ pub enum Refusal {
     Full,
 }
 
+// The match is the paper's list, as `number` of specs/ is.
 pub fn number(refusal: Refusal) -> u16
     ensures { result ≡ number refusal }
 {

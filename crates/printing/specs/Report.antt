@@ -59,7 +59,7 @@ pub record KeptWithin (most room : ℕ) (before more after : List ℕ) : Type 0 
 abbrev pub longest_count : ℕ
 longest_count = 17
 
--- A text is kept, and stands whole where there is room for the longest line.
+-- A text is kept, and stands whole where there is room for the longest line behind what is kept already.
 abbrev pub Put : ℕ → List ℕ → List ℕ → List ℕ → Type 0
 Put room before text after = KeptWithin longest room before text after
 

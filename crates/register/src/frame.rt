@@ -22,7 +22,8 @@ fn width_in(version: u16) -> Option<usize>
     }
 }
 
-// The bytes of a row; 0 where the register is not framed. A call looks at the head here, once, and hands the width on to all
+// The bytes of a row; 0 where the register is not framed, and no Option: every function here answers for such a register too, as one whose
+// rows have that width. A call looks at the head here, once, and hands the width on to all
 // that reads or writes a row. The two are no struct: `find`, `standing_at`, `full`, `set_live` and `set_cancelled` are called with both, and
 // the last two write the register under it, so that it would be made anew in each.
 pub fn row_width(register: &[u8]) -> usize

@@ -40,16 +40,6 @@ pub struct Lists {
     pub ins: List,
 }
 
-// The five lists of a case.
-#[derive(Clone, Copy)]
-pub struct Lent<'a> {
-    pub lei: &'a [u8],
-    pub cty: &'a [u8],
-    pub ccy: &'a [u8],
-    pub ven: &'a [u8],
-    pub ins: &'a [u8],
-}
-
 impl Lists {
     pub fn unread() -> Lists {
         Lists {
@@ -61,8 +51,9 @@ impl Lists {
         }
     }
 
-    pub fn all(&self) -> Result<Lent<'_>, Fault> {
-        Ok(Lent {
+    // The five as a case is judged with them.
+    pub fn all(&self) -> Result<lists::Lists<'_>, Fault> {
+        Ok(lists::Lists {
             lei: self.lei.bytes()?,
             cty: self.cty.bytes()?,
             ccy: self.ccy.bytes()?,

@@ -15,7 +15,7 @@ mod numbers;
 mod reading;
 mod results;
 
-use lent::{Lent, Lists};
+use lent::Lists;
 use numbers::{ENTRIES, entries_in};
 use reading::{Fault, read_bytes, read_field, read_number, read_part};
 use results::keep_result;
@@ -66,7 +66,7 @@ struct Moment {
     polish: u32,
 }
 
-// Judges a case and puts its result at the start of `out`.
+// Judges a case and puts its result at the start of `out`. The parameters are those of `judge`, and the buffer.
 fn result(
     line: &[u8],
     lei: &[u8],
@@ -93,7 +93,7 @@ fn result(
 fn report(
     rt: &(impl Input + Print),
     line: &[u8],
-    lists: &Lent,
+    lists: &lists::Lists,
     register: &mut [u8],
     moment: &Moment,
     findings: &mut [u16],

@@ -35,7 +35,7 @@ pub enum Kind {
     Refused,
 }
 
-// What is counted of a line. An entity whose first byte is 0 is none: the line is the common record's.
+// What is counted of a line. An entity whose first byte is 0 is none, as in a record that C lends: the line is the common record's.
 #[derive(Clone, Copy)]
 pub struct Line {
     pub entity: [u8; 20],
@@ -236,7 +236,8 @@ fn kind_of(answer: u16, count: u16, new: bool) -> Kind
     }
 }
 
-// The codes of the forms stand behind those of the rules: 1001 is the first of them, 1004 the fourth.
+// The codes of the forms stand behind those of the rules: 1001 is the first of them, 1004 the fourth. With `matches!(answer, 0 | 11)` the goal
+// stayed open.
 #[tactic(auto, unfolding(crate::specs::Judged::of_no_entity))]
 fn of_none(answer: u16, words: [u64; 3]) -> bool
     ensures { result ≡ of_no_entity answer words }

@@ -5,7 +5,7 @@
 #![tactic(auto)]
 
 ghost use Rattle.std.specs.Prelude.{◌≡◌};
-ghost use Rattle.utf8.specs.Abnf.{first, awaited, after, starts, ended, points, points_within};
+ghost use Rattle.utf8.specs.Abnf.{first, awaited, after, starts, ended, points, points_within, count_within};
 
 use text::{Class, all_of};
 
@@ -91,6 +91,12 @@ pub fn code_points(s: &[u8]) -> Option<usize>
     ended(next, n)
 }
 
+fn count_within(points: Option<usize>, most: usize) -> bool
+    ensures { result ≡ count_within most points }
+{
+    points.is_some_and(|n| (1 <= n) & (n <= most))
+}
+
 // From 1 to `most` code points, all well-formed and allowed. Most names are of plain letters, and then each byte is a code point.
 #[tactic(auto, using(crate::proofs::Laws::plain_within), unfolding(crate::specs::Abnf::points_within))]
 pub fn points_within(s: &[u8], most: usize) -> bool
@@ -99,5 +105,5 @@ pub fn points_within(s: &[u8], most: usize) -> bool
     if all_of(s, Class::Printable) {
         return (1 <= s.len()) & (s.len() <= most);
     }
-    code_points(s).is_some_and(|n| (1 <= n) & (n <= most))
+    count_within(code_points(s), most)
 }

@@ -29,6 +29,7 @@ fn of_bytes(call: &[u8], input: &[u8]) -> Option<u64> {
     }
 }
 
+// Prefixes are asked one by one here and in the calls beside: what follows them is read by `word` or as it stands.
 // shape.PATTERN, same.WORD, begins.WORD, word4.WORDS and number on a text.
 pub fn of_text(call: &[u8], input: &[u8]) -> Option<u64> {
     if let Some(pattern) = call.strip_prefix(b"shape.") {

@@ -83,7 +83,7 @@ fn is_cell(line: &[u8], f: usize, bytes: &[u8]) -> bool {
     cells::split(line).is_some_and(|split| text::same(split.cell(f), bytes))
 }
 
-// A place out of the table of starts or of ends, which are zero for a line that has not 65 cells.
+// A place out of the table of starts or of ends.
 fn place_in(table: &[usize; 65], f: usize) -> Option<u64> {
     let place = table.get(f.checked_sub(1)?)?;
     Some(*place as u64)

@@ -6,7 +6,7 @@ use buffer::{keep, keep_all};
 // The most bytes that a case writes in hexadecimal.
 pub const SPACE: usize = 2048;
 
-// Bytes in a space of their own: what has no room is dropped.
+// Bytes in a space of their own: what has no room is dropped. A `buffer::Text` lends no bytes to be changed, which a register asks for.
 #[derive(Drop)]
 pub struct Filled<const N: usize> {
     space: [u8; N],

@@ -81,7 +81,8 @@ pub fn refused(no: u16) -> Verdict
 }
 
 // The codes of a table whose bits are set in a word, the lowest bit first, into the entries from `from` on; behind the last of them.
-// Bits without a code are passed over. The word's bits that are left are the state, and no index: an iterator over them would say no more.
+// Bits without a code are passed over. The word's bits that are left are the state, and no index: an iterator over them would say no more. It is
+// no twin of what raises a summary's counters: what is done with a bit differs, and a closure would hold both buffers.
 fn list_bits(table: &[u16], word: u64, findings: &mut [u16], from: usize) -> usize
     requires { (length table.now ≤ 64) × (from + ones word ≤ length findings.old) }
     ensures { Listed (pick table.now (bits_of 64 word)) from findings.old result findings.new }
