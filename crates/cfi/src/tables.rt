@@ -25,7 +25,7 @@ pub struct Row {
     pub patterns: &'static [[u8; 6]],
 }
 
-// The values of cell 30,
+// Numbers, as the argument `kinds` of `cfi_findings` has them. The values of cell 30,
 pub const UNT: u8 = 2;
 
 // of cell 33,

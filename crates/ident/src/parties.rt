@@ -128,6 +128,7 @@ fn named(s: &[u8]) -> Identifier
     Identifier::Malformed
 }
 
+// One field a kind, so that no two arms can be one.
 fn allows(allowed: Allowed, identifier: Identifier) -> bool
     ensures { result ≡ allows allowed identifier }
 {

@@ -38,7 +38,8 @@ fn number_gives(n: &[u8], dated: bool, day: u32) -> Polish
     }
 }
 
-// Of a cell, by the party that was read of it. `dated` says that its date cell is present, which writes `day`. Few cells hold a Polish
+// Of a cell, by the party that was read of it. `dated` says that its date cell is present, which writes `day`: a present
+// one may write no day, so that an Option of the day would say less. Few cells hold a Polish
 // number, so the others are let go at once.
 #[tactic(auto, unfolding(crate::specs::Cells::polish_of, crate::specs::Cells::form_wrong, crate::specs::Cells::check_wrong, crate::specs::Cells::born_wrong, crate::specs::Cells::number_gives))]
 pub fn polish_of(party: Party, s: &[u8], dated: bool, day: u32) -> Polish

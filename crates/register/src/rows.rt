@@ -14,7 +14,7 @@ pub enum Standing {
     Cancelled,
 }
 
-// The state of a row whose pair stands so, as a byte.
+// The state of a row whose pair stands so, as the byte that the register has for it.
 pub fn state_byte(standing: Standing) -> u8
     ensures { result ≡ state_byte standing }
 {
