@@ -234,7 +234,7 @@ pub fn parse_quantity(s: &[u8]) -> Quantity
 }
 
 // The kinds of a signed amount, of a price and of a quantity, numbered from 2 on as the paper lists them; 0 where there is none of its form.
-// They stay numbers: `signed_kind`, `price_kind` and `quantity_kind` are the paper's.
+// They stay numbers: those of a price and a quantity are what the rules by CFI take.
 pub fn signed_kind(signed: Option<Decimal>) -> u8
     ensures { result ≡ signed_kind signed }
 {

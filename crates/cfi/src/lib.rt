@@ -64,7 +64,7 @@ fn mark(found: &mut [bool; 19], code: u16)
 
 // Whether a CFI matches a pattern of 330, and one of 350: for the rules that look at another CFI than that of cell 43. The few
 // patterns stand here again, since these are tried with no look at a cell; that they are those of 330 and 350 is the contract, which
-// knows one table only.
+// knows one table only. To find them in the rows would be a walk for their codes, and no plainer.
 #[tactic(auto, using(crate::proofs::Spelling::debt_text, crate::proofs::Spelling::bond_text))]
 pub fn debt_and_bond(cfi: &[u8]) -> [bool; 2]
     ensures { result ≡ matches_code 330 cfi.now ∷ matches_code 350 cfi.now ∷ [] }

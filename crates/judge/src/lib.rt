@@ -95,7 +95,7 @@ fn judge_line(
     Ok(verdict)
 }
 
-// The parameters are those of the call that a host makes.
+// The parameters are those of `boanhetri_judge`, the C interface; `judge_contract` ties them by name.
 pub fn judge(
     line: &[u8],
     lei: &[u8],

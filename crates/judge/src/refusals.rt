@@ -54,7 +54,6 @@ pub fn number(refusal: Refusal) -> u16
 }
 
 // Refusals 1 to 9, over a register whose rows have that width.
-
 #[tactic(auto, unfolding(text::specs::FirstFrom::first_from))]
 pub fn check_call(
     line: &[u8],

@@ -55,7 +55,8 @@ fn write_rows(from: &[u8], to: &mut [u8], count: usize)
     }
 }
 
-// The answer is a number, which the C interface hands on. The used rows in their places, each with day 0. Bytes behind them stay, and all where the answer is not 0.
+// The used rows in their places, each with day 0. Bytes behind them stay, and all where the answer is not 0. The answer is a number, which the C
+// interface hands on.
 pub fn convert(from: &[u8], to: &mut [u8]) -> u16
     ensures { Converted from.now to.old result to.new }
 {

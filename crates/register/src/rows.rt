@@ -14,7 +14,8 @@ pub enum Standing {
     Cancelled,
 }
 
-// The state of a row whose pair stands so, as the byte that the register has for it.
+// The state of a row whose pair stands so, as the byte that the register has for it. A match here and below, and no cast: the bytes are the form of
+// the register, as `value_of` of specs/ has it.
 pub fn state_byte(standing: Standing) -> u8
     ensures { result ≡ state_byte standing }
 {

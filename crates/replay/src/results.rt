@@ -28,7 +28,7 @@ fn keep_entries(out: &mut [u8], kept: usize, entries: &[u16]) -> usize
     n
 }
 
-// Into a slice that main lends, since what is expected of the case is read over it: no `Text`.
+// Into a slice that `report` lends, since what is expected of the case is read over it: a `Text` lends no bytes to be changed.
 pub fn keep_result(out: &mut [u8], verdict: Verdict, findings: &[u16], register: &[u8]) -> usize
     ensures { Kept out.old 0 (written verdict findings.now register.now) out.new result }
 {

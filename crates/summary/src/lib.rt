@@ -56,7 +56,7 @@ pub struct Record {
     pub codes: [u32; CODE_COUNT],
 }
 
-// Where a line was counted, and whether a counter that it should have raised was at its top.
+// Where a line was counted, and whether a counter that it should have raised was at its top. The C interface has the two so.
 #[repr(C)]
 #[derive(Clone, Copy)]
 pub struct Noted {
@@ -84,7 +84,8 @@ fn raise(counter: &mut u32) -> bool
 
 // The counters from `from` on whose bits are set in a word, the lowest bit first: a line has few codes, and where it has none no
 // counter is looked at. Bits without a counter are passed over. Whether a counter was at its top. The state is the bits
-// that are left, and no index: an iterator over them would say no more.
+// that are left, and no index: an iterator over them would say no more. It is no twin of what lists a verdict's codes: what is
+// done with a bit differs, and a closure would hold both buffers.
 fn raise_bits(counters: &mut [u32], from: usize, word: u64) -> bool
     requires { from ≤ length counters.old }
     ensures { Raising (replicate from false ++ bits_of 64 word) counters.old result counters.new }
@@ -237,7 +238,7 @@ fn kind_of(answer: u16, count: u16, new: bool) -> Kind
 }
 
 // The codes of the forms stand behind those of the rules: 1001 is the first of them, 1004 the fourth. With `matches!(answer, 0 | 11)` the goal
-// stayed open.
+// `returns` stayed open.
 #[tactic(auto, unfolding(crate::specs::Judged::of_no_entity))]
 fn of_none(answer: u16, words: [u64; 3]) -> bool
     ensures { result ≡ of_no_entity answer words }
