@@ -2,12 +2,12 @@
 use mathlib.Core.Path.{◌≡◌, ◌∙◌, refl, sym, ap}
 use mathlib.Core.Bool.{Bool, true, false, cond, true≢false}
 use mathlib.Core.List.{List, [], ◌∷◌, ◌++◌, append-nil, append_assoc}
-use Prim.Native.Nat.{ℕ, suc, ◌+◌, ◌-◌, ◌≤◌, ◌<◌}
+use Prim.Native.Nat.{ℕ, suc, ◌+◌, ◌≤◌, ◌<◌}
 use native.Mathlib.Omega.{arith}
-use lib.Dec.{eqb, ltb}
+use lib.Dec.{eqb}
 use lib.ListN.{length, take, drop, length-append, length-take, length-drop}
 use lib.Seq.{take_all, take-add}
-use borrow.Author.Tests.{ne_eqb, eqb-false, le-leb, lt-leb, lt-ltb, le-ltb}
+use borrow.Author.Tests.{eqb-false, le-leb, lt-leb}
 use Rattle.text.proofs.Bools.{by_test}
 use Rattle.table.specs.declared.Table.{Table}
 use Rattle.buffer.specs.Text.{added}
@@ -16,7 +16,7 @@ use Rattle.buffer.proofs.TextLaws.{added_least, added_front}
 use Rattle.checker.specs.Bare.{bare}
 use Rattle.checker.specs.declared.progress.Carried.{Carried}
 use Rattle.checker.specs.declared.progress.Progress.{Progress}
-use Rattle.checker.specs.Progress.{progress, start, told, left, entered, room, raised, ended, more, step, said, after, writes, line_end, Answered, Told, Advanced, Finished, TookRead, Reached, ReadOn}
+use Rattle.checker.specs.Progress.{progress, start, told, left, entered, room, raised, ended, more, step, said, after, writes, line_end, Answered, Told, Advanced, TookRead, Reached, ReadOn}
 use Rattle.checker.proofs.LineEndLaws.{end_now, end_next, end_within, with_end}
 
 pub after_append : (p : Progress) (s t : List ℕ) → after p (s ++ t) ≡ after (after p s) t
@@ -121,17 +121,6 @@ module _ (begun : List ℕ) {begun' : List ℕ} {end : ℕ} (chunk : List ℕ) (
             ∙ ap (writes now) (sym bytes);
       }
 
--- the line that has begun where the input ends
-pub last_none : {p : Progress} {put : List ℕ} → length p.begun ≤ 0 → put ≡ [] → Finished p put p.carried.table
-last_none {p} h e =
-    let none : ltb 0 (length p.begun) ≡ false = le-ltb 0 (length p.begun) h in
-    record { puts = rw none e; notes = rw none }
-
-pub last_one : {p : Progress} {c : Carried} {put : List ℕ} → 0 < length p.begun → Told p.carried p.begun put c → Finished p put c.table
-last_one {p} h t =
-    let some : ltb 0 (length p.begun) ≡ true = lt-ltb 0 (length p.begun) h in
-    record { puts = rw some t.prints; notes = rw some (ap (λ (x : Carried). x.table) t.carries) }
-
 -- the chunk is taken up to a place
 pub record TakenSoFar (p : Progress) (chunk : List ℕ) (at : ℕ) (q : Progress) : Type 0 where
   pub within : at ≤ length chunk
@@ -153,22 +142,11 @@ module _ {p q : Progress} {chunk : List ℕ} {at : ℕ} (so_far : TakenSoFar p c
             ∙ ap (after p) (sym (take-add at used chunk));
       }
 
-  -- a turn takes something, so the loop ends
-  pub taken_less : {q' : Progress} {put : List ℕ} {used : ℕ} → at < length chunk → Advanced q (drop at chunk) used q' put
-      → length chunk - (at + used) < length chunk - at
-  taken_less {q'} {put} {used} h a = omega (arith, a.takes, length-drop at chunk)
-
-  pub taken_all : length chunk ≤ at → q ≡ after p chunk
-  taken_all h = so_far.stands ∙ ap (after p) (take_all at chunk h)
-
 -- what a read gave is taken, or there was nothing
 pub read_none : {p : Progress} (given : List ℕ) → length given ≤ 0 → TookRead given p p true
 unfolding after
 read_none [] h = record { stands = refl; at_end = refl }
 read_none (b ∷ s) h = absurd (omega arith)
-
-pub read_more : {p q : Progress} {given : List ℕ} → 0 < length given → q ≡ after p given → TookRead given p q false
-read_more {given = given} h e = record { stands = e; at_end = sym (ne_eqb (length given) 0 (λ z. omega arith)) }
 
 -- where bytes lead
 pub from_start : {p q : Progress} → p ≡ start → Reached p q → Reached start q
