@@ -76,6 +76,9 @@ digits_short (suc f) n = either (digits_short f (n / 10)) (ltb n 10)
     either h true = omega arith
     either h false = rw length-append (omega arith)
 
+pub decimal_short : (n : ℕ) → length (decimal n) ≤ 20
+decimal_short n = digits_short 20 n
+
 -- nor more than the power of ten that it is under
 pub digits_under : (f k n : ℕ) → n < 10 ^ suc k → length (digits_of f n) ≤ suc k
 unfolding digits_of

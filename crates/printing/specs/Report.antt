@@ -1,8 +1,9 @@
 -- What is printed for the day's summary: a line of its own for the word, then one for each entity's record in the order of the table, then
 -- one for the common record.
-use Rattle.std.specs.Prelude.{ℕ, ◌+◌, ◌≤◌, ◌≡◌, cond, List, [], ◌∷◌, ◌++◌, eqb, ltb, length, get_or}
+use Rattle.std.specs.Prelude.{ℕ, ◌+◌, ◌≤◌, ◌≡◌, cond, List, [], ◌∷◌, ◌++◌, eqb, ltb, length, take, get_or}
 use Rattle.text.specs.Ascii.{ascii}
 use Rattle.verdict.specs.Codes.{codes}
+use Rattle.buffer.specs.Kept.{Kept}
 use Rattle.buffer.specs.Text.{added}
 use Rattle.summary.specs.declared.Record.{Record}
 use Rattle.summary.specs.Counting.{blank}
@@ -62,6 +63,11 @@ longest_count = 17
 -- A text is kept, and stands whole where there is room for the longest line behind what is kept already.
 abbrev pub Put : ℕ → List ℕ → List ℕ → List ℕ → Type 0
 Put room before text after = KeptWithin longest room before text after
+
+-- A text is put at the start of a buffer, and stands there whole where the buffer has room for the longest line.
+pub record PutFirst (text before after : List ℕ) (n : ℕ) : Type 0 where
+  pub keeps : Kept before 0 text after n
+  pub prints : longest ≤ length before → take n after ≡ text
 
 -- The opening, and the rows one after another: how many there are, and what was put, joined.
 pub data Reporting (t : Table) : ℕ → List ℕ → Type 0 where

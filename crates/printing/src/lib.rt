@@ -1,17 +1,22 @@
 // What the program prints: for a line its number, the answer, n and the codes; for the day's summary a line for each record. Numbers are in
 // decimal, parted by single spaces, and LF ends a line.
+//
+// What is pushed stands in a `Text` behind what that keeps, and what is put stands there alone. `lent` puts the same at the start of a slice of
+// any length.
 #![tactic(auto)]
 
-ghost use Rattle.std.specs.Prelude.{◌≡◌, [], ◌∷◌, take};
+ghost use Rattle.std.specs.Prelude.{◌≡◌, [], ◌∷◌, ◌++◌, take};
 ghost use Rattle.buffer.specs.Text.{added};
 ghost use Rattle.printing.specs.Printed.{decimal, spaced, printed};
 
+mod lent;
 mod report;
 
 use buffer::Text;
-pub use report::keep_row;
+pub use lent::{LONGEST, keep_answer, keep_row};
+pub use report::{push_row, put_row};
 
-fn keep_number<const N: usize>(out: &mut Text<N>, n: u64)
+fn push_number<const N: usize>(out: &mut Text<N>, n: u64)
     ensures { out.new ≡ added N out.old (decimal n) }
 {
     let mut digits = [0u8; 20];
@@ -19,18 +24,18 @@ fn keep_number<const N: usize>(out: &mut Text<N>, n: u64)
     out.push_all(&digits[..k]);
 }
 
-fn keep_spaced<const N: usize>(out: &mut Text<N>, n: u64)
+fn push_spaced<const N: usize>(out: &mut Text<N>, n: u64)
     ensures { out.new ≡ added N out.old (spaced (n ∷ [])) }
 {
     out.push(b' ');
-    keep_number(out, n);
+    push_number(out, n);
 }
 
-fn keep_codes<const N: usize>(out: &mut Text<N>, codes: &[u16])
+fn push_codes<const N: usize>(out: &mut Text<N>, codes: &[u16])
     ensures { out.new ≡ added N out.old (spaced codes.now) }
 {
     for &code in codes {
-        keep_spaced(out, u64::from(code));
+        push_spaced(out, u64::from(code));
     }
 }
 
@@ -41,7 +46,16 @@ pub fn listed(findings: &[u16], count: u16) -> &[u16]
     findings.get(..usize::from(count)).unwrap_or(findings)
 }
 
-pub fn keep_answer<const N: usize>(
+// What stands in front of the codes.
+fn push_told<const N: usize>(out: &mut Text<N>, number: u64, answer: u16, count: u16)
+    ensures { out.new ≡ added N out.old (decimal number ++ spaced (answer ∷ count ∷ [])) }
+{
+    push_number(out, number);
+    push_spaced(out, u64::from(answer));
+    push_spaced(out, u64::from(count));
+}
+
+pub fn push_answer<const N: usize>(
     out: &mut Text<N>,
     number: u64,
     answer: u16,
@@ -50,9 +64,7 @@ pub fn keep_answer<const N: usize>(
 )
     ensures { out.new ≡ added N out.old (printed number answer count codes.now) }
 {
-    keep_number(out, number);
-    keep_spaced(out, u64::from(answer));
-    keep_spaced(out, u64::from(count));
-    keep_codes(out, codes);
+    push_told(out, number, answer, count);
+    push_codes(out, codes);
     out.push(b'\n');
 }

@@ -1,5 +1,5 @@
 -- A table by rows: those of its records, and behind them that of the common one.
-use Rattle.std.specs.Prelude.{ℕ, cond, ltb, get_or}
+use Rattle.std.specs.Prelude.{ℕ, cond, List, ltb, length, get_or}
 use Rattle.summary.specs.declared.Record.{Record}
 use Rattle.summary.specs.Noting.{most_records, free}
 use Rattle.table.specs.declared.Table.{Table}
@@ -10,3 +10,7 @@ record_count = most_records
 
 unfoldable pub record_at : Table → ℕ → Record
 record_at t i = cond (ltb i record_count) (get_or t.records i free) t.common
+
+-- the same of as many records as there are
+unfoldable pub record_in : List Record → Record → ℕ → Record
+record_in records common i = cond (ltb i (length records)) (get_or records i free) common

@@ -4,7 +4,7 @@
 #![tactic(auto)]
 
 ghost use Rattle.std.specs.Prelude.{◌≡◌};
-ghost use Rattle.table.specs.Rows.{record_at};
+ghost use Rattle.table.specs.Rows.{record_at, record_in};
 ghost use Rattle.table.specs.Noted.{noted, empty_table};
 
 use summary::{MOST_RECORDS, Record};
@@ -31,6 +31,17 @@ const FREE: Record = Record {
     codes: [0; CODE_COUNT],
 };
 
+// The record of a row, of as many records as are lent, and behind them the common one.
+pub fn record_in(records: &[Record], common: &Record, i: usize) -> Record
+    ensures { result ≡ record_in records.now common.now i }
+{
+    if i < records.len() {
+        records[i]
+    } else {
+        *common
+    }
+}
+
 impl Table {
     // All records free, and nothing counted.
     #[tactic(auto, unfolding(summary::specs::Counting::fresh))]
@@ -47,11 +58,7 @@ impl Table {
     pub fn record_at(&self, i: usize) -> Record
         ensures { result ≡ record_at self.now i }
     {
-        if i < RECORD_COUNT {
-            self.records[i]
-        } else {
-            self.common
-        }
+        record_in(&self.records, &self.common, i)
     }
 
     // A line that got the verdict, counted where it belongs.

@@ -2,7 +2,7 @@ use Prim.Native.Nat.{◌<◌, ◌^◌}
 use mathlib.Core.Path.{◌∙◌}
 use native.Mathlib.Omega.{arith}
 use Rattle.printing.proofs.DecimalLaws.{few_short, digits_few}
-use Rattle.printing.proofs.keep_number.Goals as goal
+use Rattle.printing.proofs.push_number.Goals as goal
 
 pub returns : goal.returns
 returns g c =
