@@ -27,7 +27,6 @@ use Rattle.checker.specs.Program.{answer_to, judged, answers, program_writes, ta
 use Rattle.checker.specs.declared.progress.Progress.{Progress}
 use Rattle.checker.specs.Progress.{progress, start, told, left, entered, room, raised, ended, more, after, writes, last_answer, last_table, writes_all, Finished, Run, begins, turn}
 use Rattle.printing.specs.Report.{summary_text, part_of, Reporting, row}
-use Rattle.buffer.specs.Text.{added}
 use Rattle.buffer.proofs.TextLaws.{added_all}
 use Rattle.checker.proofs.ProgressLaws.{after_append, writes_append}
 use Rattle.checker.proofs.Enough.{kept_ended, kept_last}
@@ -37,8 +36,8 @@ use Rattle.checker.proofs.progress.Progress.advance.Kinds as advance_kinds
 use Rattle.checker.proofs.progress.Progress.advance.Reads as advance_reads
 use Rattle.checker.proofs.progress.Progress.finish.Kinds as finish_kinds
 use Rattle.checker.proofs.progress.Progress.finish.Reads as finish_reads
-use Rattle.printing.proofs.keep_row.Kinds as keep_row_kinds
-use Rattle.printing.proofs.keep_row.Reads as keep_row_reads
+use Rattle.printing.proofs.put_row.Kinds as put_row_kinds
+use Rattle.printing.proofs.put_row.Reads as put_row_reads
 
 -- the answers to the lines from a number on, of which line one has none
 abbrev behind : ℕ → List ℕ → List (List ℕ) → List ℕ
@@ -209,17 +208,14 @@ pub ends :
     → output ++ s.1.0.now ≡ program_writes input
 ends κs a x s post run h = program_writes_lem run h post.puts
 
--- A call of `keep_row` is a row: by its contract, where nothing is kept yet and there is room for the longest line.
+-- A call of `put_row` is a row: by its contract, over a text with room for the longest line, whatever that kept before.
 pub rows :
-    {output : List ℕ} (N : ℕ) (fits : Fits w64 N) (κs : Lfts 3) (a : Dens κs (keep_row_kinds.ps N fits)) (x : (res_t (keep_row_kinds.r N fits) κs).Denot)
-    (s : AtExit (ended_of 3 (keep_row_kinds.ps N fits) (keep_row_kinds.r N fits)) κs)
-    → keep_row_reads.Post N fits κs a x s → longest ≤ N → a.0.now ≡ []
+    {output : List ℕ} (N : ℕ) (fits : Fits w64 N) (κs : Lfts 3) (a : Dens κs (put_row_kinds.ps N fits)) (x : (res_t (put_row_kinds.r N fits) κs).Denot)
+    (s : AtExit (ended_of 3 (put_row_kinds.ps N fits) (put_row_kinds.r N fits)) κs)
+    → put_row_reads.Post N fits κs a x s → longest ≤ N
     → Reporting a.1.0.now a.1.1.0 output
     → Reporting a.1.0.now (a.1.1.0 + 1) (output ++ s.0.now)
-rows N fits κs a x s post wide none r =
-    row r
-    (post.keeps ∙ ap (λ (l : List ℕ). added N l (part_of a.1.0.now a.1.1.0)) none
-    ∙ added_all N [] (part_of a.1.0.now a.1.1.0) (omega (arith, post.few)))
+rows N fits κs a x s post wide r = row r (post.keeps ∙ added_all N [] (part_of a.1.0.now a.1.1.0) (omega (arith, post.few)))
 
 -- So a run that `finish` ends, and the rows that it leaves, all of them put: joined, what the program writes with the summary.
 pub ends_reported :

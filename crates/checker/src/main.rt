@@ -7,14 +7,16 @@
 // what these leave.
 #![tactic(auto)]
 
-ghost use Rattle.std.specs.Prelude.{◌≡◌, ◌+◌, length, IfOk, OnOk};
+ghost use Rattle.std.specs.Prelude.{◌≡◌, ◌+◌, ◌≤◌, [], take, length, IfOk, OnOk};
 ghost use Rattle.checker.specs.Progress.{after, start, TookRead, ReadOn};
 ghost use Rattle.table.specs.Rows.{record_count};
+ghost use Rattle.printing.specs.Printed.{longest};
+ghost use Rattle.printing.specs.Report.{part_of, Put};
 
 mod lines;
 mod progress;
 
-use printing::keep_row;
+use printing::put_row;
 use progress::{Answer, Progress};
 use std::fmt;
 use std::io::{Input, Read};
@@ -54,14 +56,20 @@ fn take_chunk(rt: &impl Print, progress: &mut Progress, chunk: &[u8]) -> Result<
     Ok(())
 }
 
-// Takes what a read gave, and says whether the input has ended: where it gave nothing.
-fn take_read(rt: &impl Print, progress: &mut Progress, given: &[u8]) -> Result<bool, Failure>
-    ensures { IfOk result (λ ended. TookRead given.now progress.old progress.new ended) }
+// Takes what a read that gave so many bytes put into the chunk, and says whether the input has ended: where it gave none.
+fn take_read(
+    rt: &impl Print,
+    progress: &mut Progress,
+    chunk: &[u8],
+    given: usize,
+) -> Result<bool, Failure>
+    ensures { IfOk result (λ ended. TookRead (take given chunk.now) progress.old progress.new ended) }
 {
-    if given.is_empty() {
+    let bytes = text::head(chunk, given);
+    if bytes.is_empty() {
         return Ok(true);
     }
-    take_chunk(rt, progress, given)?;
+    take_chunk(rt, progress, bytes)?;
     Ok(false)
 }
 
@@ -75,7 +83,7 @@ fn read_all(rt: &(impl Input + Print), progress: &mut Progress) -> Result<bool, 
         let Ok(given) = input.read(&mut chunk) else {
             return Err(Failure::Input);
         };
-        let ended = take_read(rt, progress, &chunk[..given])?;
+        let ended = take_read(rt, progress, &chunk, given)?;
         if ended {
             return Ok(true);
         }
@@ -92,6 +100,19 @@ fn asks_summary(rt: &impl Env) -> bool {
     }
 }
 
+// A row of the table, put in `out` and handed to the write; how many there are with it.
+fn write_row(rt: &impl Print, out: &mut Answer, table: &Table, i: usize) -> Result<usize, Failure>
+    requires { i ≤ record_count }
+    ensures put { Put longest [] (part_of table.now i) out.new }
+    ensures counted { IfOk result (λ rows. rows ≡ i + 1) }
+{
+    put_row(out, table, i);
+    if rt.write_all(out.as_slice()).is_err() {
+        return Err(Failure::Summary);
+    }
+    Ok(i + 1)
+}
+
 // How many rows of the table the summary was put of.
 fn write_summary(rt: &impl Print, table: &Table) -> Result<usize, Failure>
     ensures { IfOk result (λ rows. rows ≡ record_count + 1) }
@@ -102,12 +123,7 @@ fn write_summary(rt: &impl Print, table: &Table) -> Result<usize, Failure>
     let mut out = Answer::new();
     let mut rows = 0;
     for i in 0..ROW_COUNT {
-        out.clear();
-        keep_row(&mut out, table, i);
-        if rt.write_all(out.as_slice()).is_err() {
-            return Err(Failure::Summary);
-        }
-        rows = i + 1;
+        rows = write_row(rt, &mut out, table, i)?;
     }
     Ok(rows)
 }

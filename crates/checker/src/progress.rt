@@ -5,17 +5,13 @@ ghost use Rattle.checker.specs.Progress.{start, told, Answered, Told, Advanced, 
 
 use crate::lines::{bare, line_end};
 use buffer::Text;
-use printing::{keep_answer, listed};
+use printing::{LONGEST, listed, push_answer};
 use table::Table;
 use verdict::CODE_COUNT;
 
 // Of a line no more bytes are kept. A line of at most 4,097, a CR of its end among them, is kept whole. A longer one is refused for its
 // length, and so is what is kept of it, so the rest is not needed.
 const ROOM: usize = 4098;
-
-// Its number, the answer, n and the codes, of up to 20 digits each and all but the first behind a space, and LF: no answer is longer, and no
-// line of the summary.
-const LONGEST: usize = 21 * (3 + CODE_COUNT);
 
 pub type Answer = Text<LONGEST>;
 
@@ -64,7 +60,7 @@ impl Carried {
         );
         self.table.note(line, verdict);
         out.clear();
-        keep_answer(
+        push_answer(
             out,
             self.number,
             verdict.answer,
