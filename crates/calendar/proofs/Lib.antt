@@ -7,6 +7,7 @@ pub mod Sums
 pub mod FiveYears
 pub mod FiveYearsDays
 pub mod PlaceLaws
+pub mod CellRuns
 pub mod MomentLaws
 pub mod Options
 mod Unique

@@ -11,28 +11,14 @@ use Rattle.std.specs.Prelude.{None}
 use Rattle.text.specs.declared.classes.Class.TheVariants.{Digit}
 use Rattle.text.specs.Ascii.{ascii}
 use Rattle.text.specs.Class.{run_of}
-use Rattle.text.specs.Shape.{suits, shape}
+use Rattle.text.specs.Shape.{shape}
 use Rattle.text.proofs.Bools.{by_test}
 use Rattle.text.proofs.WordLaws.{other_length}
-use Rattle.text.proofs.RunLaws.{Run, in_runs, times, digits, itself}
+use Rattle.text.proofs.RunLaws.{in_runs, times}
 use Rattle.calendar.specs.Day.{is_day}
 use Rattle.calendar.specs.Dates.{day_written}
 use Rattle.calendar.specs.Moments.{is_ending, is_time, is_moment_cell, when_of}
-
-point_letter : (b : ℕ) → suits 46 b ≡ eqb b 46
-unfolding suits
-point_letter b = refl
-
-z_letter : (b : ℕ) → suits 90 b ≡ eqb b 90
-unfolding suits
-z_letter b = refl
-
--- Z, and a point, k digits, Z
-abbrev z_runs : List Run
-z_runs = itself 90 z_letter ∷ []
-
-abbrev fraction_runs : ℕ → List Run
-fraction_runs k = itself 46 point_letter ∷ digits k ∷ itself 90 z_letter ∷ []
+use Rattle.calendar.proofs.CellRuns.{z_runs, fraction_runs}
 
 -- a point, k digits, Z
 abbrev ending : ℕ → List ℕ

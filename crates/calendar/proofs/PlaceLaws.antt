@@ -1,7 +1,7 @@
 -- Digits at fixed places: what a pattern tells of them, and what two of them write.
 use mathlib.Core.Path.{◌≡◌, ◌∙◌, sym, refl, ap}
-use mathlib.Core.Bool.{Bool, true, false, ◌&&◌, ◌||◌, true≢false, and_assoc}
-use mathlib.Core.List.{List, [], ◌∷◌, ◌++◌}
+use mathlib.Core.Bool.{Bool, true, false, ◌&&◌, ◌||◌, true≢false}
+use mathlib.Core.List.{List, [], ◌∷◌}
 use mathlib.Core.Logic.{⊎_elim}
 use Prim.Native.Nat.{ℕ, zero, suc, ◌+◌, ◌-◌, ◌*◌, ◌≤◌, ◌<◌}
 use native.Mathlib.Nat.{add-zero}
@@ -78,14 +78,6 @@ by_pattern pattern t [] h e = refl
 by_pattern pattern t (i ∷ places) h e =
     rw (marked_one pattern t i e (and_left (eqb (get_or pattern i 0) 100) (marked pattern places) h))
     (by_pattern pattern t places (and_right (eqb (get_or pattern i 0) 100) (marked pattern places) h) e)
-
--- a pattern in two parts asks each part of the text for its own
-pub shape_in_two : (pattern more s : List ℕ) → shape (pattern ++ more) s ≡ (shape pattern (take (length pattern) s) && shape more (drop (length pattern) s))
-unfolding shape
-shape_in_two [] more s = refl
-shape_in_two (y ∷ pattern) more [] = refl
-shape_in_two (y ∷ pattern) more (b ∷ s) =
-    (λ i. suits y b && shape_in_two pattern more s i) ∙ sym (and_assoc (suits y b) (shape pattern (take (length pattern) s)) (shape more (drop (length pattern) s)))
 
 -- what stands at places before n stands there in all of the cell
 abbrev pub below : ℕ → List ℕ → Bool

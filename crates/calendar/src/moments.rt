@@ -40,11 +40,24 @@ fn is_ending(t: &[u8]) -> bool
     }
 }
 
-// yyyy-mm-ddThh:mm:ss, of a real day and time or not.
+// yyyy-mm-ddThh:mm:ss, of a real day and time or not: run by run, as a date.
 fn is_written(s: &[u8]) -> bool
     ensures { result ≡ shape (ascii "dddd-dd-ddTdd:dd:dd") s.now }
 {
-    text::shaped(text::head(s, 10), b"dddd-dd-dd") & text::shaped(text::rest(s, 10), b"Tdd:dd:dd")
+    if s.len() != 19 {
+        return false;
+    }
+    text::all_within(s, 0, 4, Class::Digit)
+        & (s[4] == b'-')
+        & text::all_within(s, 5, 7, Class::Digit)
+        & (s[7] == b'-')
+        & text::all_within(s, 8, 10, Class::Digit)
+        & (s[10] == b'T')
+        & text::all_within(s, 11, 13, Class::Digit)
+        & (s[13] == b':')
+        & text::all_within(s, 14, 16, Class::Digit)
+        & (s[16] == b':')
+        & text::all_within(s, 17, 19, Class::Digit)
 }
 
 // What is no digit counts 0, so a shorter fraction is filled with zeros.
@@ -70,8 +83,11 @@ pub fn parse_moment(s: &[u8]) -> Option<Moment>
         return None;
     }
     let day = day_written(s);
+    if !(is_day(day) & is_time(s)) {
+        return None;
+    }
     let micro = micro_written(s);
-    (is_day(day) & is_time(s)).then_some(Moment { day, micro })
+    Some(Moment { day, micro })
 }
 
 // The cell writes a moment.

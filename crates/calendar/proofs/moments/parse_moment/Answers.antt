@@ -1,16 +1,15 @@
 use mathlib.Core.Path.{◌≡◌, ◌∙◌, refl, sym, ap}
-use mathlib.Core.Bool.{Bool, true, cond, ◌&&◌}
+use mathlib.Core.Bool.{Bool, true, ◌&&◌}
 use mathlib.Core.List.{List}
 use Prim.Native.Nat.{ℕ}
 use lib.ListN.{take, drop}
 use Rattle.std.specs.Prelude.{Some, None}
 use Rattle.text.specs.Ascii.{ascii}
 use Rattle.text.specs.Shape.{shape}
-use Rattle.text.proofs.Bools.{and_left}
+use Rattle.text.proofs.Bools.{and_left, cond_yes, cond_no}
 use Rattle.calendar.specs.Day.{is_day}
 use Rattle.calendar.specs.Moments.{is_ending, when_of}
 use Rattle.calendar.specs.Places.{digits_at, date_places, time_places}
-use Rattle.calendar.proofs.Options.{then_some-cond}
 use Rattle.calendar.proofs.PlaceLaws.{marked, below, by_pattern, of_front}
 use Rattle.calendar.proofs.MomentLaws.{no_ending, not_written, written}
 use Rattle.calendar.proofs.moments.parse_moment.Goals as goal
@@ -47,11 +46,17 @@ pub micro_written-micro-requires : goal.micro_written-micro-requires
 micro_written-micro-requires c =
     digits_there c.args.s.now time_places refl refl (sym (shapes c.args.s.now c.split_at.ensures.front c.split_at.ensures.back c.is_written.ensures c.is_ending.ensures) ∙ c.if-not-is_written-is_ending.false)
 
+pub returns-then-not-is_day-is_time : goal.returns-then-not-is_day-is_time
+unfolding when_of
+returns-then-not-is_day-is_time c =
+    let right = sym (shapes c.args.s.now c.split_at.ensures.front c.split_at.ensures.back c.is_written.ensures c.is_ending.ensures) ∙ c.if-not-is_written-is_ending.false in
+    cond_no _ (written c.args.s.now right ∙ sym (λ i. (c.is_day.ensures ∙ ap is_day c.day_written-day.ensures) i && c.is_time.ensures i) ∙ c.if-not-is_day-is_time.true) refl
+
 pub returns : goal.returns
 unfolding when_of
 returns c =
     let right = sym (shapes c.args.s.now c.split_at.ensures.front c.split_at.ensures.back c.is_written.ensures c.is_ending.ensures) ∙ c.if-not-is_written-is_ending.false in
     let day = c.day_written-day.ensures in
-    rw (written c.args.s.now right)
-    (c.then_some.ensures ∙ then_some-cond _ _
-    ∙ λ i. cond ((c.is_day.ensures ∙ ap is_day day) i && c.is_time.ensures i) (Some (record { day = day i; micro = c.micro_written-micro.ensures i })) None)
+    cond_yes None
+    (written c.args.s.now right ∙ sym (λ i. (c.is_day.ensures ∙ ap is_day day) i && c.is_time.ensures i) ∙ c.if-not-is_day-is_time.false)
+    (λ i. Some (record { day = day i; micro = c.micro_written-micro.ensures i }))
