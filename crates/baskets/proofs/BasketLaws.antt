@@ -5,18 +5,18 @@ use mathlib.Core.List.{List}
 use Prim.Native.Nat.{ℕ, suc, ◌+◌, ◌-◌, ◌≤◌, ◌<◌}
 use native.Mathlib.Nat.{add-zero, zero-add}
 use native.Mathlib.Omega.{arith}
-use borrow.Author.Tests.{eq-eqb, ne_eqb, le-leb, lt-leb}
-use lib.Dec.{eqb}
+use borrow.Author.Tests.{eq-eqb, ne_eqb}
+use lib.Dec.{eqb, leb}
 use lib.ListN.{length, get_or, take, drop, length-drop}
 use lib.Seq.{take_all, drop-drop}
-use Rattle.std.proofs.Common.{Option, Some, None}
 use Rattle.text.specs.Class.{range}
+use Rattle.text.proofs.Bools.{and_left}
 use Rattle.baskets.specs.declared.items.Holds.{Holds}
 use Rattle.baskets.specs.declared.items.Item.{Item as ItemRead}
 use Rattle.baskets.specs.declared.items.Part.{Part as PartRead}
 use Rattle.baskets.specs.Items.{Item, Part, spaces_in, value_right, all_right, item_in, after_comma, fitting, items_in}
 use Rattle.baskets.specs.Told.{item_told, part_told}
-use Rattle.baskets.proofs.ItemLaws.{front_within, item_within, index_small, there_is, items_bad, items_closed, items_broken, items_more, further, some_only, none_only}
+use Rattle.baskets.proofs.ItemLaws.{front_within, item_within, index_small, there_is, items_none, items_closed, items_broken, items_more, further}
 
 -- what was read before a place, and what is told from there on
 abbrev grown : Bool → ℕ → PartRead → PartRead
@@ -40,122 +40,114 @@ module _ {holds : Holds} {s : List ℕ} {at least : ℕ} {right : Bool} {more : 
       sym (so_far.left ∙ (λ j. grown right at (part_told holds (items_in holds (z j) least (drop at s)))) ∙ (λ j. record { good = false; right = and-true right j; size = add-zero at j }))
 
   -- the item at the place
-  module _ (again : 0 < more) {t : List ℕ} {r : Option ItemRead} (here : t ≡ drop at s) (read : r ≡ item_told holds (item_in holds t)) where
+  module _ {t : List ℕ} {item : ItemRead} (here : t ≡ drop at s) (read : item ≡ item_told holds (item_in holds t)) where
     abbrev i : Item
     i = item_in holds (drop at s)
 
     abbrev after : List ℕ
     after = drop i.size (drop at s)
 
-    told : r ≡ item_told holds i
-    told = read ∙ (λ j. item_told holds (item_in holds (here j)))
+    same : item ≡ item_told holds i
+    same = read ∙ (λ j. item_told holds (item_in holds (here j)))
+
+    index_is : item.index ≡ i.index
+    index_is = ap (λ x. x.index) same
+
+    size_is : item.size ≡ i.size
+    size_is = ap (λ x. x.size) same
+
+    fits : (item.good && leb least item.index) ≡ fitting i least
+    fits = λ j. (same j).good && leb least (same j).index
 
     -- what is told, by what the items from here on come to
-    by_turn : {p : Part} → items_in holds (suc (more - 1)) least (drop at s) ≡ p → grown right at (part_told holds p) ≡ part_told holds (items_in holds 16 0 s)
-    by_turn e =
-        let one_less : more ≡ suc (more - 1) = omega arith in
-        sym (so_far.left ∙ (λ j. grown right at (part_told holds (items_in holds (one_less j) least (drop at s)))) ∙ (λ j. grown right at (part_told holds (e j))))
+    by_rest : {p : Part} → items_in holds more least (drop at s) ≡ p → grown right at (part_told holds p) ≡ part_told holds (items_in holds 16 0 s)
+    by_rest e = sym (so_far.left ∙ (λ j. grown right at (part_told holds (e j))))
 
-    unfit : fitting i least ≡ false → record { good = false; right = right; size = at } ≡ part_told holds (items_in holds 16 0 s)
+    by_turn : 0 < more → {p : Part} → items_in holds (suc (more - 1)) least (drop at s) ≡ p → grown right at (part_told holds p) ≡ part_told holds (items_in holds 16 0 s)
+    by_turn again e = let one_less : more ≡ suc (more - 1) = omega arith in by_rest ((λ j. items_in holds (one_less j) least (drop at s)) ∙ e)
+
+    -- it is unfit, also where no more may follow
+    pub items_unfit : (item.good && leb least item.index) ≡ false → record { good = false; right = right; size = at } ≡ part_told holds (items_in holds 16 0 s)
     unfolding all_right
-    unfit e = (λ j. record { good = false; right = sym (and-true right) j; size = sym (add-zero at) j }) ∙ by_turn (items_bad holds (more - 1) least (drop at s) e)
+    items_unfit e = (λ j. record { good = false; right = sym (and-true right) j; size = sym (add-zero at) j }) ∙ by_rest (items_none holds more least (drop at s) (sym fits ∙ e))
 
-    pub no_item : r ≡ None → record { good = false; right = right; size = at } ≡ part_told holds (items_in holds 16 0 s)
-    no_item e = unfit (rw (none_only i.good _ (sym told ∙ e)))
-
-    module _ {item : ItemRead} (some : r ≡ Some item) where
-      kept : (i.good ≡ true) × (item ≡ record { index = i.index; right = value_right holds i.value; size = i.size })
-      kept = some_only i.good (sym told ∙ some)
-
-      same : item ≡ record { index = i.index; right = value_right holds i.value; size = i.size }
-      same = kept.1
-
-      index_is : item.index ≡ i.index
-      index_is = ap (λ x. x.index) same
-
-      size_is : item.size ≡ i.size
-      size_is = ap (λ x. x.size) same
-
-      pub item_low : item.index < least → record { good = false; right = right; size = at } ≡ part_told holds (items_in holds 16 0 s)
-      item_low e = unfit (rw (kept.0, lt-leb least i.index (omega (arith, index_is))))
+    module _ (good : (item.good && leb least item.index) ≡ true) where
+      fitted : fitting i least ≡ true
+      fitted = sym fits ∙ good
 
       pub item_ends : at + item.size ≤ length s
-      item_ends = omega (arith, item_within holds (drop at s) kept.0, size_is, length-drop at s, so_far.within)
+      item_ends = omega (arith, item_within holds (drop at s) (and_left i.good _ fitted), size_is, length-drop at s, so_far.within)
 
       pub item_small : item.index < 1000
-      item_small = rw index_is (index_small holds (drop at s) kept.0)
+      item_small = rw index_is (index_small holds (drop at s) (and_left i.good _ fitted))
 
-      module _ (rises : least ≤ item.index) where
-        fitted : fitting i least ≡ true
-        fitted = rw (kept.0, le-leb least i.index (omega (arith, index_is, rises)))
+      -- what stands behind it
+      module _ {w : List ℕ} (behind-it : w ≡ drop item.size t) where
+        tail_is : w ≡ after
+        tail_is = behind-it ∙ (λ j. drop (size_is j) (here j))
 
-        -- what stands behind it
-        module _ {w : List ℕ} (behind-it : w ≡ drop item.size t) where
-          tail_is : w ≡ after
-          tail_is = behind-it ∙ (λ j. drop (size_is j) (here j))
+        tail_long : length w ≡ length s - (at + item.size)
+        tail_long = ap length behind-it ∙ length-drop item.size t ∙ omega (arith, ap length here, length-drop at s)
 
-          tail_long : length w ≡ length s - (at + item.size)
-          tail_long = ap length behind-it ∙ length-drop item.size t ∙ omega (arith, ap length here, length-drop at s)
+        -- the closing brace
+        pub brace_room : 1 ≤ length w → at + item.size + 1 ≤ length s
+        brace_room h = omega (arith, tail_long, item_ends)
 
-          -- the closing brace
-          pub brace_room : 1 ≤ length w → at + item.size + 1 ≤ length s
-          brace_room h = omega (arith, tail_long, item_ends)
+        ends_with : (b : ℕ) → get_or w 0 0 ≡ b → eqb (get_or after 0 0) b ≡ true
+        ends_with b e = eq-eqb _ _ (rw tail_is at e)
 
-          ends_with : (b : ℕ) → get_or w 0 0 ≡ b → eqb (get_or after 0 0) b ≡ true
-          ends_with b e = eq-eqb _ _ (rw tail_is at e)
+        ends_else : (b : ℕ) → (get_or w 0 0 ≡ b → ⊥) → eqb (get_or after 0 0) b ≡ false
+        ends_else b e = ne_eqb _ _ (λ f. e (rw tail_is f))
 
-          ends_else : (b : ℕ) → (get_or w 0 0 ≡ b → ⊥) → eqb (get_or after 0 0) b ≡ false
-          ends_else b e = ne_eqb _ _ (λ f. e (rw tail_is f))
+        pub items_end : 0 < more → get_or w 0 0 ≡ 125 → record { good = true; right = right && item.right; size = at + item.size + 1 } ≡ part_told holds (items_in holds 16 0 s)
+        unfolding all_right
+        items_end again e =
+            let regrouped : at + item.size + 1 ≡ at + (i.size + 1) = omega (arith, size_is) in
+            (λ j. record { good = true; right = right && (ap (λ x. x.right) same ∙ sym (and-true (value_right holds i.value))) j; size = regrouped j })
+            ∙ by_turn again (items_closed holds (more - 1) least (drop at s) fitted (ends_with 125 e))
 
-          pub items_end : get_or w 0 0 ≡ 125 → record { good = true; right = right && item.right; size = at + item.size + 1 } ≡ part_told holds (items_in holds 16 0 s)
+        pub items_stop : 0 < more → (get_or w 0 0 ≡ 125 → ⊥) → (get_or w 0 0 ≡ 44 → ⊥) → record { good = false; right = right && item.right; size = at + item.size } ≡ part_told holds (items_in holds 16 0 s)
+        unfolding all_right
+        items_stop again brace comma =
+            let regrouped : at + item.size ≡ at + (i.size + 0) = omega (arith, size_is) in
+            (λ j. record { good = false; right = right && (ap (λ x. x.right) same ∙ sym (and-true (value_right holds i.value))) j; size = regrouped j })
+            ∙ by_turn again (items_broken holds (more - 1) least (drop at s) fitted (ends_else 125 brace) (ends_else 44 comma))
+
+        -- nothing stands there
+        pub items_cut : 0 < more → length w < 1 → record { good = false; right = right && item.right; size = at + item.size } ≡ part_told holds (items_in holds 16 0 s)
+        items_cut again h = items_stop again (λ e. omega (arith, there_is w e (omega arith))) (λ e. omega (arith, there_is w e (omega arith)))
+
+        -- a comma and spaces
+        module _ (there : 1 ≤ length w) {gap : ℕ} (spaces : gap ≡ spaces_in (take (length w - 1) (drop 1 w))) where
+          past-comma : take (length w - 1) (drop 1 w) ≡ drop 1 w
+          past-comma = let h : length (drop 1 w) ≤ length w - 1 = omega (arith, length-drop 1 w) in take_all (length w - 1) (drop 1 w) h
+
+          pub comma_room : at + item.size + (1 + gap) ≤ length s
+          comma_room =
+              omega
+              (arith, tail_long, item_ends, spaces, front_within (range "  ") (take (length w - 1) (drop 1 w)), ap length past-comma, length-drop 1 w)
+
+          pub items_on : 0 < more → get_or w 0 0 ≡ 44 → ItemsSoFar holds s (at + item.size + (1 + gap)) (item.index + 1) (right && item.right) (more - 1)
           unfolding all_right
-          items_end e =
-              let regrouped : at + item.size + 1 ≡ at + (i.size + 1) = omega (arith, size_is) in
-              (λ j. record { good = true; right = right && (ap (λ x. x.right) same ∙ sym (and-true (value_right holds i.value))) j; size = regrouped j })
-              ∙ by_turn (items_closed holds (more - 1) least (drop at s) fitted (ends_with 125 e))
-
-          pub items_stop : (get_or w 0 0 ≡ 125 → ⊥) → (get_or w 0 0 ≡ 44 → ⊥) → record { good = false; right = right && item.right; size = at + item.size } ≡ part_told holds (items_in holds 16 0 s)
-          unfolding all_right
-          items_stop brace comma =
-              let regrouped : at + item.size ≡ at + (i.size + 0) = omega (arith, size_is) in
-              (λ j. record { good = false; right = right && (ap (λ x. x.right) same ∙ sym (and-true (value_right holds i.value))) j; size = regrouped j })
-              ∙ by_turn (items_broken holds (more - 1) least (drop at s) fitted (ends_else 125 brace) (ends_else 44 comma))
-
-          -- nothing stands there
-          pub items_cut : length w < 1 → record { good = false; right = right && item.right; size = at + item.size } ≡ part_told holds (items_in holds 16 0 s)
-          items_cut h = items_stop (λ e. omega (arith, there_is w e (omega arith))) (λ e. omega (arith, there_is w e (omega arith)))
-
-          -- a comma and spaces
-          module _ (there : 1 ≤ length w) {gap : ℕ} (spaces : gap ≡ spaces_in (take (length w - 1) (drop 1 w))) where
-            past-comma : take (length w - 1) (drop 1 w) ≡ drop 1 w
-            past-comma = let h : length (drop 1 w) ≤ length w - 1 = omega (arith, length-drop 1 w) in take_all (length w - 1) (drop 1 w) h
-
-            pub comma_room : at + item.size + (1 + gap) ≤ length s
-            comma_room =
-                omega
-                (arith, tail_long, item_ends, spaces, front_within (range "  ") (take (length w - 1) (drop 1 w)), ap length past-comma, length-drop 1 w)
-
-            pub items_on : get_or w 0 0 ≡ 44 → ItemsSoFar holds s (at + item.size + (1 + gap)) (item.index + 1) (right && item.right) (more - 1)
-            unfolding all_right
-            items_on comma =
-                let gap_is : 1 + gap ≡ after_comma after = λ j. 1 + (spaces ∙ ap spaces_in (past-comma ∙ (λ k. drop 1 (tail_is k)))) j in
-                let next_is : item.index + 1 ≡ suc i.index = omega (arith, index_is) in
-                let place : at + item.size + (1 + gap) ≡ at + i.size + after_comma after = λ j. at + size_is j + gap_is j in
-                let rest-is : drop (at + item.size + (1 + gap)) s ≡ drop (after_comma after) after =
-                ap (λ (k : ℕ). drop k s) place
-                ∙ sym (drop-drop (after_comma after) (at + i.size) s)
-                ∙ ap (drop (after_comma after)) (sym (drop-drop i.size at s))
-                in
-                let p : Part = further holds (more - 1) least (drop at s) in
-                let whole : at + (i.size + (after_comma after + p.size)) ≡ at + item.size + (1 + gap) + p.size = omega (arith, place) in
-                record {
-                  within = comma_room;
-                  left =
-                      sym (by_turn (items_more holds (more - 1) least (drop at s) fitted (ends_else 125 (λ e. omega (arith, e, comma))) (ends_with 44 comma)))
-                      ∙ (λ j. record {
-                        good = p.good;
-                        right = (sym (and_assoc right (value_right holds i.value) (all_right holds p.values)) ∙ (λ k. (right && (sym same k).right) && all_right holds p.values)) j;
-                        size = whole j;
-                      })
-                      ∙ (λ j. grown (right && item.right) (at + item.size + (1 + gap)) (part_told holds (items_in holds (more - 1) (sym next_is j) (sym rest-is j))));
-                }
+          items_on again comma =
+              let gap_is : 1 + gap ≡ after_comma after = λ j. 1 + (spaces ∙ ap spaces_in (past-comma ∙ (λ k. drop 1 (tail_is k)))) j in
+              let next_is : item.index + 1 ≡ suc i.index = omega (arith, index_is) in
+              let place : at + item.size + (1 + gap) ≡ at + i.size + after_comma after = λ j. at + size_is j + gap_is j in
+              let rest-is : drop (at + item.size + (1 + gap)) s ≡ drop (after_comma after) after =
+              ap (λ (k : ℕ). drop k s) place
+              ∙ sym (drop-drop (after_comma after) (at + i.size) s)
+              ∙ ap (drop (after_comma after)) (sym (drop-drop i.size at s))
+              in
+              let p : Part = further holds (more - 1) least (drop at s) in
+              let whole : at + (i.size + (after_comma after + p.size)) ≡ at + item.size + (1 + gap) + p.size = omega (arith, place) in
+              record {
+                within = comma_room;
+                left =
+                    sym (by_turn again (items_more holds (more - 1) least (drop at s) fitted (ends_else 125 (λ e. omega (arith, e, comma))) (ends_with 44 comma)))
+                    ∙ (λ j. record {
+                      good = p.good;
+                      right = (sym (and_assoc right (value_right holds i.value) (all_right holds p.values)) ∙ (λ k. (right && (sym same k).right) && all_right holds p.values)) j;
+                      size = whole j;
+                    })
+                    ∙ (λ j. grown (right && item.right) (at + item.size + (1 + gap)) (part_told holds (items_in holds (more - 1) (sym next_is j) (sym rest-is j))));
+              }

@@ -7,7 +7,6 @@ use native.Mathlib.Omega.{arith}
 use borrow.Author.Tests.{eqb-true, eqb-false, leb-true, not-true}
 use lib.Dec.{eqb, leb, lit<}
 use lib.ListN.{length, get_or, take, drop, length-drop, length-take}
-use Rattle.std.proofs.Common.{Option, Some, None}
 use Rattle.std.specs.List.{take_while, prefix_len}
 use Rattle.text.specs.Ascii.{ascii}
 use Rattle.text.specs.Class.{range}
@@ -20,18 +19,8 @@ use Rattle.ident.specs.Codes.{isin_shaped}
 use Rattle.baskets.specs.declared.items.Holds.{Holds}
 use Rattle.baskets.specs.declared.items.Holds.TheVariants.{Isin, Term}
 use Rattle.baskets.specs.declared.items.Value.{Value}
-use Rattle.baskets.specs.Items.{Part, in_front, digits_in, one_to_three, spaces_in, stands, units, value_size, value_right, item_in, none, behind, joined, after_comma, fitting, items_in}
+use Rattle.baskets.specs.Items.{Part, in_front, digits_in, one_to_three, spaces_in, stands, units, value_size, value_right, item_with, item_in, none, behind, joined, after_comma, fitting, items_in}
 use Rattle.baskets.specs.Told.{value_told, item_told}
-
--- what a choice between a value and none came to
-module _ {A : Type 0} where
-  pub some_only : (b : Bool) {x y : A} → cond b (Some x) None ≡ Some y → (b ≡ true) × (y ≡ x)
-  some_only true e = (refl, cc)
-  some_only false e = cc
-
-  pub none_only : (b : Bool) (x : A) → cond b (Some x) None ≡ None → b ≡ false
-  none_only true x e = cc
-  none_only false x e = refl
 
 -- the bytes in front are counted
 pub front_counted : (test : ℕ → Bool) (s : List ℕ) → in_front test s ≡ length (take_while test s)
@@ -75,55 +64,36 @@ value_within Term s =
     (λ e. rw e (omega arith))
 
 -- the item in front, by what the calls tell: n digits, and behind the colon and the spaces the value
-module _ (holds : Holds) (s : List ℕ) {n : ℕ} (digits : n ≡ digits_in s) where
+module _ (s : List ℕ) {n : ℕ} (digits : n ≡ digits_in s) where
   pub colon_room : n ≤ length s
   colon_room = rw digits (front_within (range "09") s)
 
-  module _ {colon : ℕ} (colon-there : colon ≡ get_or s n 0) where
-    index_tested : (one_to_three n && eqb colon 58) ≡ (one_to_three (digits_in s) && stands ":" (digits_in s) s)
-    index_tested = λ i. one_to_three (digits i) && eqb ((colon-there ∙ (λ j. get_or s (digits j) 0)) i) 58
+  module _ {u : List ℕ} {gap : ℕ} (past : u ≡ drop (n + 1) s) (spaces : gap ≡ spaces_in u) where
+    pub value_room : n + 1 + gap ≤ length s + 1
+    value_room = omega (arith, colon_room, spaces, front_within (range "  ") u, ap length past, length-drop (n + 1) s)
 
-    pub no_index : (one_to_three n && eqb colon 58) ≡ false → None ≡ item_told holds (item_in holds s)
-    unfolding item_in
-    no_index e = rw (sym index_tested ∙ e)
+    place : n + 1 + gap ≡ digits_in s + 1 + spaces_in (drop (digits_in s + 1) s)
+    place = λ i. digits i + 1 + (spaces ∙ ap spaces_in (past ∙ (λ j. drop (digits j + 1) s))) i
 
-    module _ (indexed : (one_to_three n && eqb colon 58) ≡ true) {u : List ℕ} {gap : ℕ} (past : u ≡ drop (n + 1) s) (spaces : gap ≡ spaces_in u) where
-      pub value_room : n + 1 + gap ≤ length s + 1
-      value_room = omega (arith, colon_room, spaces, front_within (range "  ") u, ap length past, length-drop (n + 1) s)
+    module _ (holds : Holds) {t : List ℕ} {value : Value} (there : t ≡ drop (n + 1 + gap) s) (value_is : value ≡ value_told holds t) where
+      sized : value.size ≡ value_size holds (drop (n + 1 + gap) s)
+      sized = ap (λ v. v.size) value_is ∙ ap (value_size holds) there
 
-      place : n + 1 + gap ≡ digits_in s + 1 + spaces_in (drop (digits_in s + 1) s)
-      place = λ i. digits i + 1 + (spaces ∙ ap spaces_in (past ∙ (λ j. drop (digits j + 1) s))) i
+      pub item_room : n + 1 + gap + value.size ≤ length s + 1
+      item_room = omega (arith, value_room, sized, value_within holds (drop (n + 1 + gap) s), length-drop (n + 1 + gap) s)
 
-      module _ {t : List ℕ} {r : Option Value} (there : t ≡ drop (n + 1 + gap) s) (told : r ≡ value_told holds t) where
-        told_there : r ≡ value_told holds (drop (digits_in s + 1 + spaces_in (drop (digits_in s + 1) s)) s)
-        told_there = told ∙ (λ i. value_told holds ((there ∙ (λ j. drop (place j) s)) i))
-
-        pub no_value : r ≡ None → None ≡ item_told holds (item_in holds s)
-        unfolding item_in
-        no_value e = rw (none_only (not (eqb (value_size holds (drop (digits_in s + 1 + spaces_in (drop (digits_in s + 1) s)) s)) 0)) _ (sym told_there ∙ e), sym index_tested ∙ indexed)
-
-        module _ {value : Value} (some : r ≡ Some value) where
-          at : ℕ
-          at = digits_in s + 1 + spaces_in (drop (digits_in s + 1) s)
-
-          kept : (not (eqb (value_size holds (drop at s)) 0) ≡ true) × (value ≡ record { size = value_size holds (drop at s); right = value_right holds (take (value_size holds (drop at s)) (drop at s)) })
-          unfolding at
-          kept = some_only (not (eqb (value_size holds (drop at s)) 0)) (sym told_there ∙ some)
-
-          pub item_room : n + 1 + gap + value.size ≤ length s + 1
-          unfolding at
-          item_room = omega (arith, value_room, place, ap (λ v. v.size) kept.1, value_within holds (drop at s), length-drop at s)
-
-          pub item_is : {index : ℕ} {front : List ℕ} → front ≡ take n s → index ≡ number_of front
-              → Some (record { index = index; right = value.right; size = n + 1 + gap + value.size }) ≡ item_told holds (item_in holds s)
-          unfolding item_in at
-          item_is front-is number =
-              rw (sym index_tested ∙ indexed, kept.0)
-              (λ i. Some (record {
-                index = (number ∙ ap number_of (front-is ∙ (λ j. take (digits j) s))) i;
-                right = (kept.1 i).right;
-                size = place i + (kept.1 i).size;
-              }))
+      pub item_is : {colon index : ℕ} {front : List ℕ} → colon ≡ get_or s n 0 → front ≡ take n s → index ≡ number_of front
+          → record { good = one_to_three n && eqb colon 58 && not (eqb value.size 0); index = index; right = value.right; size = n + 1 + gap + value.size }
+          ≡ item_told holds (item_in holds s)
+      unfolding item_in
+      item_is colon-there front-is number =
+          (λ i. record {
+            good = one_to_three n && eqb (colon-there i) 58 && not (eqb (sized i) 0);
+            index = (number ∙ ap number_of front-is) i;
+            right = (ap (λ v. v.right) value_is ∙ (λ j. value_right holds (take (value_size holds (there j)) (there j)))) i;
+            size = n + 1 + gap + sized i;
+          })
+          ∙ (λ i. item_told holds (item_with holds s (digits i) (place i)))
 
 -- what is a good item ends within the text
 pub item_within : (holds : Holds) (s : List ℕ) → (item_in holds s).good ≡ true → (item_in holds s).size ≤ length s
@@ -157,6 +127,12 @@ module _ (holds : Holds) (most least : ℕ) (s : List ℕ) where
       → items_in holds (suc most) least s ≡ joined (item_in holds s) (behind (after_comma tail) further)
   unfolding items_in
   items_more e brace comma = rw (e, brace, comma)
+
+-- no items where the first is unfit, however many may follow
+pub items_none : (holds : Holds) (most least : ℕ) (s : List ℕ) → fitting (item_in holds s) least ≡ false → items_in holds most least s ≡ none
+unfolding items_in
+items_none holds zero least s e = refl
+items_none holds (suc most) least s e = items_bad holds most least s e
 
 -- the index of a good item has at most three digits
 pub index_small : (holds : Holds) (s : List ℕ) → (item_in holds s).good ≡ true → (item_in holds s).index < 1000

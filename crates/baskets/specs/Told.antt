@@ -1,5 +1,5 @@
 -- What the functions tell of a value, an item and a part, for contracts within the crate: the values themselves are left behind, and whether all are right is kept.
-use Rattle.std.specs.Prelude.{ℕ, Bool, false, cond, not, ◌&&◌, List, Option, Some, None, eqb, leb, take}
+use Rattle.std.specs.Prelude.{ℕ, Bool, false, ◌&&◌, List, leb, take}
 use Rattle.baskets.specs.declared.items.Holds.{Holds}
 use Rattle.baskets.specs.declared.items.Value.{Value}
 use Rattle.baskets.specs.declared.items.Item.{Item as ItemRead}
@@ -13,11 +13,11 @@ broken_off right size = record { good = false; right = right; size = size }
 abbrev pub between : (least most : ℕ) → ℕ → Bool
 between least most b = leb least b && leb b most
 
-abbrev pub value_told : Holds → List ℕ → Option Value
-value_told holds s = cond (not (eqb (value_size holds s) 0)) (Some (record { size = value_size holds s; right = value_right holds (take (value_size holds s) s) })) None
+abbrev pub value_told : Holds → List ℕ → Value
+value_told holds s = record { size = value_size holds s; right = value_right holds (take (value_size holds s) s) }
 
-abbrev pub item_told : Holds → Item → Option ItemRead
-item_told holds i = cond i.good (Some (record { index = i.index; right = value_right holds i.value; size = i.size })) None
+abbrev pub item_told : Holds → Item → ItemRead
+item_told holds i = record { good = i.good; index = i.index; right = value_right holds i.value; size = i.size }
 
 abbrev pub part_told : Holds → Part → PartRead
 part_told holds p = record { good = p.good; right = all_right holds p.values; size = p.size }

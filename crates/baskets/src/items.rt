@@ -10,15 +10,21 @@ pub enum Holds {
     Term,
 }
 
-// The value in front of a text: how long it is, and whether its check digit is right.
+// The value in front of a text: how long it is, 0 where there is none, and whether its check digit is right.
+//
+// No Option, since `right` is told where there is no value too: false of an ISIN, true of a term.
 #[derive(Clone, Copy)]
 struct Value {
     size: usize,
     right: bool,
 }
 
+// An index and a value in front of a text.
+//
+// `good` stays a flag and no Option: index, check digit and size are told of what is not well formed too, as far as it was read.
 #[derive(Clone, Copy)]
 struct Item {
+    good: bool,
     index: u64,
     right: bool,
     size: usize,
@@ -54,35 +60,42 @@ pub fn in_front(s: &[u8], least: u8, most: u8) -> usize
     s.iter().take_while(|&&b| least <= b && b <= most).count()
 }
 
-fn isin_in(s: &[u8]) -> Option<Value>
+#[tactic(auto, unfolding(text::specs::Shape::shape))]
+fn isin_in(s: &[u8]) -> Value
     ensures { result ≡ value_told Holds.Isin s.now }
 {
     let isin = text::head(s, 12);
     if !ident::isin_shaped(isin) {
-        return None;
+        return Value {
+            size: 0,
+            right: false,
+        };
     }
-    Some(Value {
+    Value {
         size: 12,
         right: ident::isin_remainder(isin) == 0,
-    })
+    }
 }
 
-fn term_in(s: &[u8]) -> Option<Value>
+fn term_in(s: &[u8]) -> Value
     ensures { result ≡ value_told Holds.Term s.now }
 {
     let n = in_front(text::rest(s, 5), b'0', b'9');
     if !(text::one_of(text::head(s, 5), b"DAYS#WEEK#MNTH#YEAR#", 5) & ((1 <= n) & (n <= 3))) {
-        return None;
+        return Value {
+            size: 0,
+            right: true,
+        };
     }
-    Some(Value {
+    Value {
         size: 5 + n,
         right: true,
-    })
+    }
 }
 
 // One match here, and no type parameter or closure for the value that is read: it would stand on each of the six functions up to
 // `legs_in`, and the definitions speak of `Holds` as well.
-fn value_in(s: &[u8], holds: Holds) -> Option<Value>
+fn value_in(s: &[u8], holds: Holds) -> Value
     ensures { result ≡ value_told holds s.now }
 {
     match holds {
@@ -92,20 +105,18 @@ fn value_in(s: &[u8], holds: Holds) -> Option<Value>
 }
 
 // An index of 1 to 3 digits, a colon, spaces, a value.
-fn item_in(s: &[u8], holds: Holds) -> Option<Item>
+fn item_in(s: &[u8], holds: Holds) -> Item
     ensures { result ≡ item_told holds (item_in holds s.now) }
 {
     let n = in_front(s, b'0', b'9');
-    if !((1 <= n) & (n <= 3) & (text::byte_at(s, n) == b':')) {
-        return None;
-    }
     let at = n + 1 + in_front(text::rest(s, n + 1), b' ', b' ');
-    let value = value_in(text::rest(s, at), holds)?;
-    Some(Item {
+    let value = value_in(text::rest(s, at), holds);
+    Item {
+        good: (1 <= n) & (n <= 3) & (text::byte_at(s, n) == b':') & (value.size != 0),
         index: text::number_in(text::head(s, n)),
         right: value.right,
         size: at + value.size,
-    })
+    }
 }
 
 // Up to 16 items whose indexes rise, and the closing brace. Each must have an index of at least `least`.
@@ -117,10 +128,8 @@ fn items_in(s: &[u8], holds: Holds) -> Part
     let mut right = true;
     for _ in 0..16usize {
         let text = text::rest(s, at);
-        let Some(item) = item_in(text, holds) else {
-            return broken_off(right, at);
-        };
-        if item.index < least {
+        let item = item_in(text, holds);
+        if !(item.good & (least <= item.index)) {
             return broken_off(right, at);
         }
         right &= item.right;
