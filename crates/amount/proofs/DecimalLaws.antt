@@ -1,5 +1,5 @@
 -- Decimals: where the point stands, how many digits there can be, and that their number fits.
-use mathlib.Core.Path.{◌≡◌, ◌∙◌, refl, sym}
+use mathlib.Core.Path.{◌≡◌, ◌∙◌, refl, sym, ap}
 use mathlib.Core.Bool.{Bool, true, false, cond, ◌&&◌, ◌||◌}
 use mathlib.Core.List.{List, [], ◌∷◌}
 use mathlib.Core.Logic.{⊎_elim}
@@ -7,7 +7,7 @@ use Prim.Native.Nat.{ℕ, suc, ◌+◌, ◌-◌, ◌^◌, ◌≤◌, ◌<◌}
 use native.Mathlib.Omega.{arith}
 use borrow.Author.Tests.{eqb-true, leb-true, ltb-false}
 use lib.Dec.{leb, ltb, eqb, lit<}
-use lib.ListN.{length, length-append, length-take, length-drop}
+use lib.ListN.{length, take, drop, length-append, length-take, length-drop}
 use Rattle.std.specs.Prelude.{◌==◌}
 use Rattle.std.specs.List.{position_or_len}
 use Rattle.std.specs.Option.{unwrap_or}
@@ -18,7 +18,7 @@ use Rattle.text.specs.Class.{is, run_of}
 use Rattle.text.specs.Number.{number_of}
 use Rattle.text.proofs.Bools.{and_left, and_right, or_cases, by_test}
 use Rattle.text.proofs.NumberLaws.{numeral_below, ten_grows}
-use Rattle.amount.specs.Decimal.{point_at, whole, decimals, is_decimal, digits_of}
+use Rattle.amount.specs.Decimal.{point_at, whole, decimals, is_decimal, digits_of, without_last_zeros, fewest_decimals}
 
 pub point_within : (s : List ℕ) → point_at s ≤ length s
 unfolding point_at
@@ -53,6 +53,23 @@ whole_length s = length-take (point_at s) s ∙ omega (arith, point_within s)
 pub digits_length : (s : List ℕ) → length (digits_of s) ≡ point_at s + (length s - (point_at s + 1))
 unfolding digits_of decimals
 digits_length s = length-append (whole s) (decimals s) ∙ rw (whole_length s, length-drop)
+
+-- what stands before the point and behind it, by the point's place
+module _ (s : List ℕ) {p : ℕ} (here : p ≡ point_at s) where
+  pub point_room : p ≤ length s
+  point_room = rw here (point_within s)
+
+  pub whole_is : {w : List ℕ} → w ≡ take p s → w ≡ whole s
+  unfolding whole
+  whole_is e = e ∙ rw here
+
+  pub decimals_are : {d : List ℕ} → d ≡ drop (p + 1) s → d ≡ decimals s
+  unfolding decimals
+  decimals_are e = e ∙ rw here
+
+  pub fewest_are : {d t : List ℕ} → t ≡ without_last_zeros d → d ≡ drop (p + 1) s → t ≡ fewest_decimals s
+  unfolding fewest_decimals
+  fewest_are f e = f ∙ ap without_last_zeros (decimals_are e)
 
 -- D(n, f, m) has at most n digits without a point, and fewer than m with one
 pub few_digits : (n f m : ℕ) (s : List ℕ) → is_decimal n f m s ≡ true → n ≤ 18 → m ≤ 19 → length (digits_of s) ≤ 18

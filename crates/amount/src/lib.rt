@@ -80,7 +80,6 @@ fn without_last_zeros(s: &[u8]) -> &[u8]
 
 // At the document's widths there are never more than 18 digits: with a point among them, 19 bytes hold no more.
 // A zero before the point stays: places never fall below none.
-#[tactic(auto, using(crate::proofs::SignLaws::number_fits, crate::proofs::SignLaws::places_fit, crate::proofs::SignLaws::value_is, crate::proofs::DecimalLaws::point_within), unfolding(crate::specs::Decimal::whole, crate::specs::Decimal::decimals, crate::specs::Decimal::fewest_decimals))]
 fn value_of(s: &[u8]) -> Decimal
     requires { length (digits_of s.now) ≤ 18 }
     ensures { result ≡ value_of s.now }
