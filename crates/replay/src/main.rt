@@ -64,6 +64,8 @@ struct Moment {
     micro: u64,
     // where it is not 0, Polish identifiers are judged
     polish: u32,
+    // how many entries the findings buffer has
+    entries: u32,
 }
 
 // Judges a case and puts its result at the start of `out`. The parameters are those of `judge`, and the buffer.
@@ -120,11 +122,16 @@ fn report(
     Ok(())
 }
 
+// All of it is read at once: each read is a call of the system.
 fn read_moment(rt: &impl Input) -> Result<Moment, Fault> {
+    let bytes: [u8; 20] = read_bytes(rt)?;
+    let low = u64::from(text::le32(&bytes, 4));
+    let high = u64::from(text::le32(&bytes, 8));
     Ok(Moment {
-        day: read_number(rt)?,
-        micro: u64::from_le_bytes(read_bytes(rt)?),
-        polish: read_number(rt)?,
+        day: text::le32(&bytes, 0),
+        micro: high << 32 | low,
+        polish: text::le32(&bytes, 12),
+        entries: text::le32(&bytes, 16),
     })
 }
 
@@ -135,7 +142,7 @@ fn take_case(rt: &(impl Input + Print), lists: &Lists) -> Result<(), Fault> {
     let mut register = [0u8; REGISTER];
     let register = read_field(rt, &mut register)?;
     let moment = read_moment(rt)?;
-    let n = read_number(rt)? as usize;
+    let n = moment.entries as usize;
     let mut bytes = [0u8; 2 * ENTRIES];
     let mut findings = entries_in(read_part(rt, &mut bytes, 2 * n)?);
     report(rt, line, &lists, register, &moment, &mut findings[..n])
@@ -170,12 +177,11 @@ fn take_all(rt: &(impl Input + Print), cases: u32) -> Result<(), Fault> {
 }
 
 fn run(rt: &(impl Input + Print)) -> Result<(), Fault> {
-    let mark = read_bytes(rt)?;
-    let cases = read_number(rt)?;
-    if mark != *b"CASE\x02\x00\x00\x00" {
+    let head: [u8; 12] = read_bytes(rt)?;
+    if !text::starts_with(&head, b"CASE\x02\x00\x00\x00") {
         return Err(Fault::OtherVersion);
     }
-    take_all(rt, cases)
+    take_all(rt, text::le32(&head, 8))
 }
 
 fn main(rt: HostRuntime) {
