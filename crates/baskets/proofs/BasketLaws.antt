@@ -71,15 +71,24 @@ module _ {holds : Holds} {s : List ℕ} {at least : ℕ} {right : Bool} {more : 
     unfolding all_right
     items_unfit e = (λ j. record { good = false; right = sym (and-true right) j; size = sym (add-zero at) j }) ∙ by_rest (items_none holds more least (drop at s) (sym fits ∙ e))
 
+    -- it is good, whether its index rises or not
+    module _ (good : item.good ≡ true) where
+      is_good : i.good ≡ true
+      is_good = sym (ap (λ x. x.good) same) ∙ good
+
+      pub item_ends : at + item.size ≤ length s
+      item_ends = omega (arith, item_within holds (drop at s) is_good, size_is, length-drop at s, so_far.within)
+
+      pub item_small : item.index < 1000
+      item_small = rw index_is (index_small holds (drop at s) is_good)
+
+    -- it is good, and its index rises
     module _ (good : (item.good && leb least item.index) ≡ true) where
       fitted : fitting i least ≡ true
       fitted = sym fits ∙ good
 
-      pub item_ends : at + item.size ≤ length s
-      item_ends = omega (arith, item_within holds (drop at s) (and_left i.good _ fitted), size_is, length-drop at s, so_far.within)
-
-      pub item_small : item.index < 1000
-      item_small = rw index_is (index_small holds (drop at s) (and_left i.good _ fitted))
+      ends : at + item.size ≤ length s
+      ends = item_ends (and_left item.good _ good)
 
       -- what stands behind it
       module _ {w : List ℕ} (behind-it : w ≡ drop item.size t) where
@@ -91,7 +100,7 @@ module _ {holds : Holds} {s : List ℕ} {at least : ℕ} {right : Bool} {more : 
 
         -- the closing brace
         pub brace_room : 1 ≤ length w → at + item.size + 1 ≤ length s
-        brace_room h = omega (arith, tail_long, item_ends)
+        brace_room h = omega (arith, tail_long, ends)
 
         ends_with : (b : ℕ) → get_or w 0 0 ≡ b → eqb (get_or after 0 0) b ≡ true
         ends_with b e = eq-eqb _ _ (rw tail_is at e)
@@ -125,7 +134,7 @@ module _ {holds : Holds} {s : List ℕ} {at least : ℕ} {right : Bool} {more : 
           pub comma_room : at + item.size + (1 + gap) ≤ length s
           comma_room =
               omega
-              (arith, tail_long, item_ends, spaces, front_within (range "  ") (take (length w - 1) (drop 1 w)), ap length past-comma, length-drop 1 w)
+              (arith, tail_long, ends, spaces, front_within (range "  ") (take (length w - 1) (drop 1 w)), ap length past-comma, length-drop 1 w)
 
           pub items_on : 0 < more → get_or w 0 0 ≡ 44 → ItemsSoFar holds s (at + item.size + (1 + gap)) (item.index + 1) (right && item.right) (more - 1)
           unfolding all_right

@@ -26,7 +26,7 @@ use Rattle.printing.specs.Printed.{longest}
 use Rattle.checker.specs.Program.{answer_to, judged, answers, program_writes, table_after, program_reports}
 use Rattle.checker.specs.declared.progress.Progress.{Progress}
 use Rattle.checker.specs.Progress.{progress, start, told, left, entered, room, raised, ended, more, after, writes, last_answer, last_table, writes_all, Finished, Run, begins, turn}
-use Rattle.printing.specs.Report.{summary_text, part_of, Reporting, row}
+use Rattle.printing.specs.Report.{summary_text, part_of, Put, Reporting, row}
 use Rattle.buffer.proofs.TextLaws.{added_all}
 use Rattle.checker.proofs.ProgressLaws.{after_append, writes_append}
 use Rattle.checker.proofs.Enough.{kept_ended, kept_last}
@@ -36,6 +36,8 @@ use Rattle.checker.proofs.progress.Progress.advance.Kinds as advance_kinds
 use Rattle.checker.proofs.progress.Progress.advance.Reads as advance_reads
 use Rattle.checker.proofs.progress.Progress.finish.Kinds as finish_kinds
 use Rattle.checker.proofs.progress.Progress.finish.Reads as finish_reads
+use Rattle.printing.proofs.push_row.Kinds as push_row_kinds
+use Rattle.printing.proofs.push_row.Reads as push_row_reads
 use Rattle.printing.proofs.put_row.Kinds as put_row_kinds
 use Rattle.printing.proofs.put_row.Reads as put_row_reads
 
@@ -208,6 +210,14 @@ pub ends :
     → output ++ s.1.0.now ≡ program_writes input
 ends κs a x s post run h = program_writes_lem run h post.puts
 
+-- What is put in place of all that a text kept, where it has room for the longest line, is a row.
+row_put :
+    {t : Table} {i : ℕ} {output after : List ℕ} (N : ℕ)
+    → Put N [] (part_of t i) after → longest ≤ N
+    → Reporting t i output
+    → Reporting t (i + 1) (output ++ after)
+row_put {t} {i} N put wide r = row r (put.keeps ∙ added_all N [] (part_of t i) (omega (arith, put.few)))
+
 -- A call of `put_row` is a row: by its contract, over a text with room for the longest line, whatever that kept before.
 pub rows :
     {output : List ℕ} (N : ℕ) (fits : Fits w64 N) (κs : Lfts 3) (a : Dens κs (put_row_kinds.ps N fits)) (x : (res_t (put_row_kinds.r N fits) κs).Denot)
@@ -215,7 +225,16 @@ pub rows :
     → put_row_reads.Post N fits κs a x s → longest ≤ N
     → Reporting a.1.0.now a.1.1.0 output
     → Reporting a.1.0.now (a.1.1.0 + 1) (output ++ s.0.now)
-rows N fits κs a x s post wide r = row r (post.keeps ∙ added_all N [] (part_of a.1.0.now a.1.1.0) (omega (arith, post.few)))
+rows N fits κs a x s post wide r = row_put N post wide r
+
+-- So is one of `push_row`, where the text keeps nothing yet.
+pub rows_pushed :
+    {output : List ℕ} (N : ℕ) (fits : Fits w64 N) (κs : Lfts 3) (a : Dens κs (push_row_kinds.ps N fits)) (x : (res_t (push_row_kinds.r N fits) κs).Denot)
+    (s : AtExit (ended_of 3 (push_row_kinds.ps N fits) (push_row_kinds.r N fits)) κs)
+    → push_row_reads.Post N fits κs a x s → longest ≤ N → a.0.now ≡ []
+    → Reporting a.1.0.now a.1.1.0 output
+    → Reporting a.1.0.now (a.1.1.0 + 1) (output ++ s.0.now)
+rows_pushed N fits κs a x s post wide none r = row_put N (rw none at post) wide r
 
 -- So a run that `finish` ends, and the rows that it leaves, all of them put: joined, what the program writes with the summary.
 pub ends_reported :

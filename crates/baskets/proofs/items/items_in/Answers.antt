@@ -1,5 +1,6 @@
 use Rattle.std.proofs.Common.{arith, ◌≡◌, ◌-◌, ◌+◌, ◌∙◌}
 use borrow.Author.Tests.{ltb-true}
+use Rattle.text.proofs.Bools.{and_left}
 use Rattle.baskets.proofs.BasketLaws.{items_out, items_unfit, item_ends, item_small, items_end, items_stop, items_cut, comma_room, items_on}
 use Rattle.baskets.proofs.items.items_in.Goals.{in_default-via-then-rest-lt1, in_default-via-else-rest-lt1+in_default-1}
 use Rattle.baskets.proofs.items.items_in.Goals as goal
@@ -8,7 +9,7 @@ pub returns-then-not-item-least : goal.returns-then-not-item-least
 returns-then-not-item-least c = c.broken_off.ensures ∙ items_unfit c.loop.invariant c.rest-text.ensures c.item_in-item.ensures c.if-not-item-least.true
 
 pub overflow_add-at : goal.overflow_add-at
-overflow_add-at c = omega (arith, item_ends c.loop.invariant c.rest-text.ensures c.item_in-item.ensures c.if-not-item-least.false)
+overflow_add-at c = omega (arith, item_ends c.loop.invariant c.rest-text.ensures c.item_in-item.ensures (and_left _ _ c.if-not-item-least.false))
 
 pub returns-in-125 : goal.returns-in-125
 returns-in-125 c = items_end c.loop.invariant c.rest-text.ensures c.item_in-item.ensures c.if-not-item-least.false c.rest.ensures (omega arith) (omega arith)
@@ -28,7 +29,7 @@ returns-in_default c =
     ]
 
 pub overflow_add-least : goal.overflow_add-least
-overflow_add-least c = omega (arith, item_small c.loop.invariant c.rest-text.ensures c.item_in-item.ensures c.if-not-item-least.false)
+overflow_add-least c = omega (arith, item_small c.loop.invariant c.rest-text.ensures c.item_in-item.ensures (and_left _ _ c.if-not-item-least.false))
 
 pub loop-preserved : goal.loop-preserved
 loop-preserved c =
