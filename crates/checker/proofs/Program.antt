@@ -36,6 +36,8 @@ use Rattle.checker.proofs.progress.Progress.advance.Kinds as advance_kinds
 use Rattle.checker.proofs.progress.Progress.advance.Reads as advance_reads
 use Rattle.checker.proofs.progress.Progress.finish.Kinds as finish_kinds
 use Rattle.checker.proofs.progress.Progress.finish.Reads as finish_reads
+use Rattle.printing.proofs.keep_row.Kinds as keep_row_kinds
+use Rattle.printing.proofs.keep_row.Reads as keep_row_reads
 use Rattle.printing.proofs.push_row.Kinds as push_row_kinds
 use Rattle.printing.proofs.push_row.Reads as push_row_reads
 use Rattle.printing.proofs.put_row.Kinds as put_row_kinds
@@ -235,6 +237,15 @@ pub rows_pushed :
     → Reporting a.1.0.now a.1.1.0 output
     → Reporting a.1.0.now (a.1.1.0 + 1) (output ++ s.0.now)
 rows_pushed N fits κs a x s post wide none r = row_put N (rw none at post) wide r
+
+-- And so is one of `keep_row`: what it tells to have put at the start of a slice with room for the longest line.
+pub rows_kept :
+    {output : List ℕ} (κs : Lfts 2) (a : Dens κs keep_row_kinds.ps) (x : (res_t keep_row_kinds.r κs).Denot)
+    (s : AtExit (ended_of 2 keep_row_kinds.ps keep_row_kinds.r) κs)
+    → keep_row_reads.Post κs a x s → longest ≤ length a.0.now
+    → Reporting a.1.0.now a.1.1.0 output
+    → Reporting a.1.0.now (a.1.1.0 + 1) (output ++ take x s.0.now)
+rows_kept κs a x s post room r = row r (post.prints room)
 
 -- So a run that `finish` ends, and the rows that it leaves, all of them put: joined, what the program writes with the summary.
 pub ends_reported :
